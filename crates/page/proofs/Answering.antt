@@ -25,7 +25,7 @@ use Rattle.page.specs.Shown.{part, Shown, Seen, seen-at, leaf-at}
 use Rattle.page.specs.Laws.{Holds}
 use Rattle.page.specs.Dom.{Dom, Element, Single, span, leading, seen-from, siblings, tree}
 use Rattle.page.specs.Dom.Dom.{end, element, leaf}
-use Rattle.page.specs.Asking.{spot, next-number, passed, node-from, past-of, from-past, after-by, first-spot, In, children, following, related, Answers, Answers-document, Valued, if-named, attribute-from, attributes-past, attribute-of, first-named, attributes, Answers-attribute, shown-part, shows, Reads-node}
+use Rattle.page.specs.Asking.{spot, next-number, passed, node-from, past-of, from-past, after-by, first-spot, In, children, following, related, Answers, Answers-root, Valued, if-named, attribute-from, attributes-past, attribute-of, first-named, attributes, Answers-attribute, shown-part, shows, Reads-node}
 use Rattle.page.specs.Asking.In.{here, below, beside, behind}
 use Rattle.page.proofs.Records.{written, le2-back, long-is, whole-is, written-rest, written-some, front-back}
 use Rattle.page.proofs.Whole.{Kept, seen-above, no-attributes, Headed, heads}
@@ -286,12 +286,12 @@ module _ (page : List ℕ) (s : Spot) where
   sibling-answers : (r : Option Spot) → r ≡ after-by 0 page s → Answers following page s r
   sibling-answers r e es h x q f = e ∙ sibling-of (node-at-spot page es h q) f
 
-  document-answers : (r : Option Spot) → r ≡ after-by 1 page s → Answers-document 1 page s r
+  document-answers : (r : Option Spot) → r ≡ after-by 1 page s → Answers-root 1 page s r
   document-answers r e es h f = e ∙ ap (after-by 1 page) f ∙ document-answer page es h
 
 -- the three clauses of `after_by`
 abbrev pub After : ℕ → List ℕ → Spot → Option Spot → Type 0
-After more page s r = record { answer : r ≡ after-by more page s; node : Answers (related more) page s r; document : Answers-document more page s r }
+After more page s r = record { answer : r ≡ after-by more page s; node : Answers (related more) page s r; document : Answers-root more page s r }
 
 pub after : (more : ℕ) → more ≤ 1 → (page : List ℕ) (s : Spot) (r : Option Spot) → r ≡ after-by more page s → After more page s r
 after more few page s r e = by more few e

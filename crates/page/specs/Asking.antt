@@ -129,9 +129,9 @@ related zero = following
 related (suc more) = children
 
 -- and of the Document, which stands at the page's start and has no siblings
-abbrev pub Answers-document : (more : ℕ) → List ℕ → Spot → Option Spot → Type 0
-Answers-document zero page s r = Unit {0}
-Answers-document (suc more) page s r = (es : List Entry) → Holds page es → s ≡ spot 0 0 → r ≡ first-spot (tree es .nodes)
+abbrev pub Answers-root : (more : ℕ) → List ℕ → Spot → Option Spot → Type 0
+Answers-root zero page s r = Unit {0}
+Answers-root (suc more) page s r = (es : List Entry) → Holds page es → s ≡ spot 0 0 → r ≡ first-spot (tree es .nodes)
 
 -- the first attribute of that name
 abbrev pub first-named : List ℕ → List Attribute → Option Valued

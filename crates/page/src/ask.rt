@@ -5,7 +5,7 @@ ghost use lib.ListN.{drop};
 ghost use mathlib.Core.Bool.{cond, _||_};
 ghost use mathlib.Core.Path.{_≡_};
 ghost use Prim.Native.Nat.{_≤_};
-ghost use Rattle.page.specs.Asking.{node-from, node-at, past-of, after-by, related, valued, attribute-of, Answers, Answers-attribute, Answers-document, children, following};
+ghost use Rattle.page.specs.Asking.{node-from, node-at, past-of, after-by, related, valued, attribute-of, Answers, Answers-attribute, Answers-root, children, following};
 ghost use Rattle.std.specs.Options.{mapped};
 ghost use Rattle.std.specs.declared.option.Option.the-variants.{Some, None};
 use crate::frame::Frame;
@@ -88,7 +88,7 @@ fn after_by(more: usize, page: &[u8], spot: Spot) -> Option<Spot>
     requires { ⌜ more ≤ 1 ⌝ }
     ensures answer { λ r. ⌜ r ≡ after-by more (now (page .entry)) spot ⌝ }
     ensures node { λ r. ⌜ Answers (related more) (now (page .entry)) spot r ⌝ }
-    ensures document { λ r. ⌜ Answers-document more (now (page .entry)) spot r ⌝ }
+    ensures document { λ r. ⌜ Answers-root more (now (page .entry)) spot r ⌝ }
 {
     let past = record_after(page, spot)?;
     node_from(page, past.next, past.depth as usize + more)
@@ -98,7 +98,7 @@ fn after_by(more: usize, page: &[u8], spot: Spot) -> Option<Spot>
 pub fn first_child(page: &[u8], node: Spot) -> Option<Spot>
     ensures answer { λ r. ⌜ r ≡ after-by 1 (now (page .entry)) node ⌝ }
     ensures child { λ r. ⌜ Answers children (now (page .entry)) node r ⌝ }
-    ensures document { λ r. ⌜ Answers-document 1 (now (page .entry)) node r ⌝ }
+    ensures document { λ r. ⌜ Answers-root 1 (now (page .entry)) node r ⌝ }
 {
     after_by(1, page, node)
 }

@@ -1,0 +1,7 @@
+pub mod Cascade
+pub mod Styles
+pub mod Source
+pub mod Matching
+pub mod Marking
+pub mod Names
+pub mod Housing
