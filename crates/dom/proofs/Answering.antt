@@ -1,18 +1,18 @@
 -- What is asked of a page is answered from its tree. Assumes nothing.
-use Rattle.std.proofs.Common.{◌≡◌, ℕ, zero, suc, ◌+◌, ◌-◌, ◌^◌, ◌<◌, ◌≤◌, min, Bool, true, false, cond, ◌&&◌, ◌||◌, eqb, ltb, leb, ◌⊎◌, List, [], ◌∷◌, ◌++◌, length, drop, Some, None, Ok, Option, Result, sym, refl, ap, ◌∙◌, subst, inl, inr, ⊎_elim, append_assoc, arith, length-append}
-use lib.Seq.{drop-append_seam, drop-append-add}
+use Rattle.std.proofs.Common.{◌≡◌, ℕ, zero, suc, ◌+◌, ◌-◌, ◌^◌, ◌<◌, ◌≤◌, Bool, true, false, cond, ◌&&◌, ◌||◌, eqb, ltb, leb, ◌⊎◌, List, [], ◌∷◌, ◌++◌, length, drop, Some, None, Ok, Option, Result, sym, refl, ap, ◌∙◌, subst, inl, inr, append_assoc, arith, length-append}
+use lib.Seq.{drop-append_seam}
 use Rattle.std.proofs.lemmas.Bool.{and_parts, leb-true, cases_Bool, eqb-true}
 use Rattle.std.proofs.lemmas.Bool.Decides.{nat_tests}
 use Rattle.parts.specs.declared.Refusal.{Refusal}
 use Rattle.parts.specs.declared.Spot.{Spot}
 use Rattle.parts.specs.declared.Namespace.{Namespace}
-use Rattle.dom.specs.Format.{Leaf, Body, Entry, payload, kind, leaf_kind, kind_number, encoded, encodings, sound, order, kind_fits, depth_fits, fits, orderly, well_formed}
+use Rattle.dom.specs.Format.{Leaf, Body, Entry, kind, leaf_kind, kind_number, encoded, encodings, sound, order, kind_fits, depth_fits, fits, orderly, well_formed}
 use Rattle.dom.specs.Format.Leaf.{text, comment, doctype, instruction}
 use Rattle.dom.specs.Format.Entry.{entry}
 use Rattle.dom.specs.Reading.{whole, le2_at, le4_at, entry_front, entry_at, next_place}
 use Rattle.dom.specs.Shown.{part, Shown, Seen, seen_at, leaf_at}
 use Rattle.dom.specs.Laws.{Holds}
-use Rattle.dom.specs.Dom.{Dom, Element, Single, span, leading, seen_from, siblings, tree}
+use Rattle.dom.specs.Dom.{Dom, span, leading, seen_from, siblings, tree}
 use Rattle.dom.specs.Dom.Dom.{end, element, leaf}
 use Rattle.dom.specs.Asking.{spot, next_number, passed, node_from, past_of, from_past, after_by, first_spot, In, children, following, related, Answers, AnswersRoot, Valued, if_named, attribute_from, attributes_past, attribute_of, first_named, attributes, AnswersAttribute, shown_part, shows, ReadsNode}
 use Rattle.dom.specs.Asking.In.{here, below, beside, behind}

@@ -1,5 +1,5 @@
 -- A payload is read back as the body that it encodes, and a body that was read encodes as its payload. Assumes nothing.
-use Rattle.std.proofs.Common.{◌≡◌, ℕ, suc, ◌+◌, ◌-◌, ◌<◌, ◌≤◌, Bool, true, false, cond, ◌&&◌, eqb, leb, List, [], ◌∷◌, ◌++◌, length, get_or, take, drop, Some, None, Ok, Err, Option, Result, sym, refl, ap, ◌∙◌, subst, add-one, arith, length-append, take-append-drop, length-take}
+use Rattle.std.proofs.Common.{◌≡◌, ℕ, suc, ◌+◌, ◌<◌, ◌≤◌, Bool, true, false, cond, ◌&&◌, leb, List, [], ◌∷◌, ◌++◌, length, get_or, take, drop, Some, None, Ok, Err, Option, Result, refl, ap, ◌∙◌, subst, add-one, arith, length-append, take-append-drop, length-take}
 use lib.Seq.{take-append_seam, drop-append_seam}
 use Rattle.std.proofs.lemmas.Bool.{le-leb, leb-true, and_parts, and_from}
 use Rattle.std.proofs.lemmas.Bool.Decides.{nat_tests}
@@ -10,11 +10,11 @@ use Rattle.parts.specs.declared.Kind.{Kind}
 use Rattle.parts.specs.declared.Kind.TheVariants.{Document, Element, Text, Comment, Doctype, ProcessingInstruction, Attribute}
 use Rattle.parts.specs.declared.Refusal.{Refusal}
 use Rattle.parts.specs.declared.Refusal.TheVariants.{Name as WrongName, Text as WrongText}
-use Rattle.dom.specs.Format.{Leaf, Body, kind, payload, sound, namespace_number, kind_number}
+use Rattle.dom.specs.Format.{Body, kind, payload, sound, namespace_number, kind_number}
 use Rattle.dom.specs.Format.Leaf.{text, comment, doctype, instruction}
 use Rattle.dom.specs.Format.Body.{document, element, leaf, attribute}
 use Rattle.dom.specs.Reading.{namespace_of, named, name_space, name_in, value_in, has_name, body_of, kind_of}
-use Rattle.dom.proofs.Stepping.{never, chosen, chosen_twice}
+use Rattle.dom.proofs.Stepping.{never, chosen}
 
 -- ---- numbers of kinds and namespaces
 namespace_back : (s : Namespace) → namespace_of (namespace_number s) ≡ Some s

@@ -1,13 +1,12 @@
 -- How the reading of a page goes on from record to record. Assumes nothing.
-use Rattle.std.proofs.Common.{◌≡◌, ℕ, zero, suc, ◌+◌, ◌-◌, ◌<◌, ◌≤◌, Bool, true, false, cond, ◌&&◌, eqb, ltb, leb, List, [], ◌∷◌, ◌++◌, length, take, drop, Some, None, Ok, Err, Option, Result, sym, refl, ap, ◌∙◌, subst, add-zero, add_assoc, add-suc, zero-add, add-one, one-add, arith, length-drop}
+use Rattle.std.proofs.Common.{◌≡◌, ℕ, zero, suc, ◌+◌, ◌-◌, ◌<◌, ◌≤◌, Bool, true, false, cond, eqb, leb, List, [], ◌∷◌, length, take, drop, Ok, Err, Result, sym, refl, ap, ◌∙◌, add-zero, arith, length-drop}
 use Rattle.std.proofs.lemmas.List.{drop-drop, drop_all, take_rest}
 use Rattle.std.proofs.lemmas.Bool.{leb-false, le-ltb}
-use Rattle.parts.specs.declared.Kind.{Kind}
 use Rattle.parts.specs.declared.Refusal.{Refusal}
 use Rattle.parts.specs.declared.Refusal.TheVariants.{Many, Cut}
 use Rattle.dom.specs.declared.steps.Order.{Order}
 use Rattle.dom.specs.declared.steps.Step.{Step}
-use Rattle.dom.specs.Format.{Leaf, Body, Entry, kind, order}
+use Rattle.dom.specs.Format.{Body, Entry, kind, order}
 use Rattle.dom.specs.Format.Leaf.{text, comment, doctype, instruction}
 use Rattle.dom.specs.Format.Body.{document, element, leaf, attribute}
 use Rattle.dom.specs.Format.Entry.{entry}

@@ -1,12 +1,11 @@
 -- Every part of a page's tree stands in the page at its place. Assumes nothing.
-use Rattle.std.proofs.Common.{◌≡◌, ℕ, suc, ◌+◌, ◌/◌, ◌%◌, ◌≤◌, Bool, true, false, cond, eqb, ltb, List, [], ◌∷◌, ◌++◌, length, take, drop, sym, refl, ap, ◌∙◌, subst, append_assoc, append-nil, arith, length-append}
+use Rattle.std.proofs.Common.{◌≡◌, ℕ, suc, ◌+◌, Bool, true, false, cond, eqb, ltb, List, [], ◌∷◌, ◌++◌, length, take, drop, sym, refl, ap, ◌∙◌, append_assoc, append-nil, arith, length-append}
 use lib.Seq.{take-append_seam, drop-append_seam}
 use Rattle.dom.specs.Format.{Body, Entry, payload, kind, kind_number, namespace_number, le2, le4, encoded, encodings}
 use Rattle.dom.specs.Format.Entry.{entry}
 use Rattle.dom.specs.Shown.{part}
-use Rattle.dom.specs.Laws.{Holds}
-use Rattle.dom.specs.Dom.{Dom, span, leading, seen_from, siblings, tree, Stands, AttributesStand, NodesStand, PartsStand}
-use Rattle.dom.specs.Dom.Dom.{end, element, leaf}
+use Rattle.dom.specs.Dom.{Dom, span, leading, seen_from, siblings, Stands, AttributesStand, NodesStand, PartsStand}
+use Rattle.dom.specs.Dom.Dom.{end}
 
 stands_between : (page xs ys zs : List ℕ) (s : ℕ) → page ≡ xs ++ (ys ++ zs) → s ≡ length xs → Stands page (part s ys)
 stands_between page xs ys zs s e l =

@@ -1,12 +1,12 @@
 -- The records that are read from a page are those whose encodings it is. Assumes nothing.
-use Rattle.std.proofs.Common.{◌≡◌, ℕ, zero, suc, ◌+◌, ◌-◌, ◌*◌, ◌/◌, ◌%◌, ◌<◌, ◌≤◌, Bool, true, false, cond, ◌&&◌, eqb, ltb, leb, List, [], ◌∷◌, ◌++◌, length, get_or, take, drop, Some, None, Ok, Err, Option, Result, sym, refl, ap, ◌∙◌, subst, append-nil, arith, length-append, length-drop, take-append-drop, length-take, get_or-drop}
+use Rattle.std.proofs.Common.{◌≡◌, ℕ, zero, suc, ◌+◌, ◌-◌, ◌*◌, ◌/◌, ◌%◌, ◌<◌, ◌≤◌, Bool, true, false, cond, ◌&&◌, eqb, ltb, leb, List, [], ◌∷◌, ◌++◌, length, get_or, take, drop, Some, None, Ok, Err, Option, Result, sym, refl, ap, ◌∙◌, subst, arith, length-append, length-drop, take-append-drop, length-take, get_or-drop}
 use lib.Seq.{take-append_seam, drop-append_seam}
 use Rattle.std.proofs.lemmas.Bool.{le-leb, leb-true, lt-leb, leb-false, ltb-false, eqb-false, ne_eqb, and_parts, and_from}
 use Rattle.parts.specs.declared.Kind.{Kind}
 use Rattle.parts.specs.declared.Refusal.{Refusal}
 use Rattle.parts.specs.declared.Refusal.TheVariants.{Long, Cut, Kind as WrongKind, Depth as WrongDepth}
 use Rattle.dom.specs.declared.steps.Order.{Order}
-use Rattle.dom.specs.Format.{Body, Entry, kind, payload, encoded, encodings, le2, le4, kind_number, kind_fits, depth_fits, order, fits, orderly, sound, well_formed}
+use Rattle.dom.specs.Format.{Body, Entry, kind, payload, encoded, encodings, le2, le4, kind_number, kind_fits, depth_fits, order, fits, orderly, sound}
 use Rattle.dom.specs.Format.Entry.{entry}
 use Rattle.dom.specs.Reading.{whole, le2_at, le4_at, payload_of, kind_of, of_kind, tested, with_depth, body_of, first_entry, entry_front, read_as, followed, and_then, entries_from, entries, counted}
 use Rattle.dom.specs.Laws.{Holds, Accepts, HeldOnce}

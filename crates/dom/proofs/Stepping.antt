@@ -1,5 +1,5 @@
 -- What the tests of one record come to. Assumes nothing.
-use Rattle.std.proofs.Common.{◌≡◌, ℕ, suc, ◌+◌, ◌-◌, ◌<◌, ◌≤◌, Bool, true, false, cond, ◌&&◌, leb, List, [], ◌∷◌, length, get_or, take, drop, Some, None, Ok, Err, Option, Result, sym, refl, ap, ◌∙◌, arith}
+use Rattle.std.proofs.Common.{◌≡◌, ℕ, ◌+◌, ◌-◌, ◌≤◌, Bool, true, false, cond, ◌&&◌, leb, List, length, take, drop, Some, None, Ok, Err, Option, Result, sym, refl, ap, arith}
 use Rattle.std.proofs.lemmas.Bool.{le-leb, and_parts, leb-true}
 use Rattle.text.specs.Rfc3629.{octets}
 use Rattle.parts.specs.declared.Namespace.{Namespace}
@@ -9,9 +9,9 @@ use Rattle.parts.specs.declared.Refusal.{Refusal}
 use Rattle.parts.specs.declared.Refusal.TheVariants.{Kind as WrongKind, Depth as WrongDepth, Name as WrongName, Text as WrongText, Cut, Many}
 use Rattle.dom.specs.declared.steps.Order.{Order}
 use Rattle.dom.specs.declared.steps.Frame.{Frame}
-use Rattle.dom.specs.Format.{Leaf, Body, Entry, kind, order, kind_fits, depth_fits}
+use Rattle.dom.specs.Format.{Leaf, Body, kind, kind_fits, depth_fits}
 use Rattle.dom.specs.Format.Entry.{entry}
-use Rattle.dom.specs.Reading.{tested, with_depth, body_of, named, name_space, name_in, value_in, has_name, first_entry, entry_front, read_as, whole, of_kind, kind_of, frame_of, le2_at, le4_at, payload_of, after}
+use Rattle.dom.specs.Reading.{tested, with_depth, body_of, named, name_space, name_in, value_in, has_name, first_entry, entry_front, read_as, whole, of_kind, kind_of, frame_of, le2_at, le4_at, payload_of}
 use Rattle.dom.specs.Shown.{Shown, Seen, body_at, shown_at, seen_at}
 
 -- ---- the tests

@@ -1,12 +1,12 @@
 -- The tree of a page holds all its records. Assumes nothing.
-use Rattle.std.proofs.Common.{◌≡◌, ℕ, zero, suc, ◌+◌, ◌<◌, ◌≤◌, Bool, true, false, cond, not, ◌&&◌, eqb, ltb, leb, List, [], ◌∷◌, ◌++◌, length, Some, None, Option, sym, refl, ap, ◌∙◌, subst, ⊎_elim, append_assoc, append-nil, arith}
+use Rattle.std.proofs.Common.{◌≡◌, ℕ, zero, suc, ◌+◌, ◌<◌, ◌≤◌, Bool, true, false, cond, ◌&&◌, leb, List, [], ◌∷◌, ◌++◌, length, Some, None, sym, refl, ap, ◌∙◌, subst, ⊎_elim, append_assoc, append-nil, arith}
 use mathlib.Core.Bool.{false≢true}
 use Rattle.std.proofs.lemmas.Bool.{and_parts, leb-true, eqb-true, lt-ltb, le-ltb, eq-eqb, ne_eqb, cases_lt}
 use Rattle.dom.specs.Format.{Leaf, Body, Entry, kind, leaf_kind, order, is_first, deepest, attribute_depth, is, kind_fits, depth_fits, node_fits, fits, orderly, sound, encodings, well_formed}
 use Rattle.dom.specs.Format.Leaf.{text, comment, doctype, instruction}
 use Rattle.dom.specs.Format.Entry.{entry}
 use Rattle.dom.specs.Shown.{part}
-use Rattle.dom.specs.Dom.{Dom, Single, Attribute, Located, span, attribute_here, leading, seen_from, siblings, tree, locate, flat_attributes, flat, flat_tree, TreeIsWhole}
+use Rattle.dom.specs.Dom.{Dom, Attribute, Located, span, leading, seen_from, siblings, tree, locate, flat_attributes, flat, flat_tree, TreeIsWhole}
 use Rattle.dom.specs.Dom.Dom.{end, element, leaf}
 use Rattle.dom.specs.Dom.Located.{located}
 

@@ -1,14 +1,11 @@
 -- What is asked of a page, by the number and place of a record.
-use Rattle.std.specs.Prelude.{◌≡◌, ℕ, zero, suc, ◌+◌, ◌-◌, ◌^◌, min, Bool, true, false, cond, ◌||◌, List, [], ◌∷◌, length, drop, Some, None, Ok, Err, Option, Result, ◌==◌, nat_lt}
-use Rattle.std.specs.Option.{option_map}
+use Rattle.std.specs.Prelude.{◌≡◌, ℕ, zero, suc, ◌+◌, ◌-◌, ◌^◌, min, Bool, cond, ◌||◌, List, [], ◌∷◌, length, drop, Some, None, Ok, Err, Option, Result, ◌==◌, nat_lt}
 use Rattle.std.specs.Str.{bytes_eq}
 use Rattle.parts.specs.declared.Spot.{Spot}
-use Rattle.parts.specs.declared.Found.{Found}
 use Rattle.parts.specs.declared.Named.{Named}
 use Rattle.parts.specs.declared.Refusal.{Refusal}
 use Rattle.dom.specs.declared.steps.Past.{Past}
-use Rattle.dom.specs.Format.{Leaf, Body, Entry, encodings}
-use Rattle.dom.specs.Format.Leaf.{text, comment, doctype, instruction}
+use Rattle.dom.specs.Format.{Body, Entry}
 use Rattle.dom.specs.Format.Entry.{entry}
 use Rattle.dom.specs.Reading.{whole, le2_at, le4_at, entry_front}
 use Rattle.dom.specs.Shown.{Part, part, Shown, Seen, borrowed, leaf_at}

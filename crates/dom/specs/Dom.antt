@@ -1,7 +1,7 @@
 -- The tree of a page, with the number and place of each record and the places of names, values and texts.
-use Rattle.std.specs.Prelude.{◌≡◌, ℕ, suc, ◌+◌, ◌≤◌, Bool, true, cond, List, [], ◌∷◌, ◌++◌, length, take, drop, ◌==◌, nat_lt}
+use Rattle.std.specs.Prelude.{◌≡◌, ℕ, suc, ◌+◌, ◌≤◌, true, cond, List, [], ◌∷◌, ◌++◌, length, take, drop, ◌==◌, nat_lt}
 use Rattle.parts.specs.declared.Namespace.{Namespace}
-use Rattle.dom.specs.Format.{Leaf, Body, Entry, payload, encoded, encodings, well_formed}
+use Rattle.dom.specs.Format.{Leaf, Body, Entry, payload, encoded, well_formed}
 use Rattle.dom.specs.Format.Entry.{entry}
 use Rattle.dom.specs.Shown.{Part, part}
 use Rattle.dom.specs.Laws.{Holds}

@@ -1,5 +1,5 @@
 -- The record format: what the records of a page are, their bytes, and the rules that they keep.
-use Rattle.std.specs.Prelude.{ℕ, suc, ◌+◌, ◌/◌, ◌%◌, Bool, true, false, cond, not, ◌&&◌, ◌||◌, List, [], ◌∷◌, ◌++◌, length, Some, None, Option, ◌==◌, nat_le}
+use Rattle.std.specs.Prelude.{ℕ, suc, ◌+◌, ◌/◌, ◌%◌, Bool, true, false, not, ◌&&◌, List, [], ◌∷◌, ◌++◌, length, Some, None, Option, ◌==◌, nat_le}
 use Rattle.text.specs.Rfc3629.{octets}
 use Rattle.parts.specs.declared.Namespace.{Namespace}
 use Rattle.parts.specs.declared.Namespace.TheVariants.{Other, Html, Svg}

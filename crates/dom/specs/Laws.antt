@@ -1,5 +1,5 @@
 -- What it is to be accepted, in the format's own words.
-use Rattle.std.specs.Prelude.{◌≡◌, ℕ, ◌<◌, true, List, [], length, get_or, Ok, Err, Result}
+use Rattle.std.specs.Prelude.{◌≡◌, ℕ, true, List, [], length, Ok, Err, Result}
 use Rattle.parts.specs.declared.Refusal.{Refusal}
 use Rattle.parts.specs.declared.Refusal.TheVariants.{Cut}
 use Rattle.dom.specs.Format.{Entry, encodings, well_formed}

@@ -1,5 +1,5 @@
 -- What the bytes of a page say, record after record, and which refusal they get.
-use Rattle.std.specs.Prelude.{ℕ, zero, suc, ◌+◌, ◌-◌, ◌*◌, Bool, true, false, cond, ◌&&◌, List, [], ◌∷◌, length, take, drop, Some, None, Ok, Err, Option, Result, ◌==◌, nat_le, nat_lt, slice_index}
+use Rattle.std.specs.Prelude.{ℕ, zero, suc, ◌+◌, ◌-◌, ◌*◌, Bool, false, cond, ◌&&◌, List, [], ◌∷◌, length, take, drop, Some, None, Ok, Err, Option, Result, ◌==◌, nat_le, nat_lt, slice_index}
 use Rattle.parts.specs.declared.Kind.{Kind}
 use Rattle.parts.specs.declared.Kind.TheVariants.{Document, Element, Text, Comment, Doctype, ProcessingInstruction, Attribute}
 use Rattle.parts.specs.declared.Namespace.{Namespace}
@@ -7,7 +7,7 @@ use Rattle.parts.specs.declared.Namespace.TheVariants.{Other, Html, Svg}
 use Rattle.parts.specs.declared.Refusal.{Refusal}
 use Rattle.parts.specs.declared.Refusal.TheVariants.{Long, Cut, Kind as WrongKind, Depth as WrongDepth, Name as WrongName, Text as WrongText, Many}
 use Rattle.text.specs.Rfc3629.{octets}
-use Rattle.dom.specs.Format.{Leaf, Body, Entry, kind, order, kind_fits, depth_fits}
+use Rattle.dom.specs.Format.{Body, Entry, kind, order, kind_fits, depth_fits}
 use Rattle.dom.specs.Format.Leaf.{text, comment, doctype, instruction}
 use Rattle.dom.specs.Format.Body.{document, element, leaf, attribute}
 use Rattle.dom.specs.Format.Entry.{entry}

@@ -1,4 +1,6 @@
 //! The parts of a page: records, their places, and refusals.
+#![tactic(auto)]
+
 mod numbers;
 
 /// The namespace of an element.

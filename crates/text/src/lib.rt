@@ -1,4 +1,6 @@
 //! Characters and texts, by their public documents.
+#![tactic(auto)]
+
 pub mod count;
 pub mod integer;
 pub mod superscript;

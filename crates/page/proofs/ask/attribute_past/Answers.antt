@@ -9,24 +9,24 @@ use Rattle.dom.proofs.Asked.{attributes_on, attribute_turn, attribute_end, read_
 use Rattle.dom.proofs.Answering.{answered}
 use Rattle.page.proofs.ask.attribute_past.Goals as goal
 
-pub returns-in-default : goal.returns-in-default
-returns-in-default c =
+pub returns-in_default : goal.returns-in_default
+returns-in_default c =
     let page = c.args.page.now in
     let at = c.loop-place.place in
     let n = c.loop-place.number in
     let name = c.args.name.now in
     answered c.args.page.now c.args.element c.args.name.now None
-    (sym (read_refused at (next_place page at) n name (attributes_on page at n name) (entry_at page at) c.in-default.field-0 c.in-default.ensures.answer)
+    (sym (read_refused at (next_place page at) n name (attributes_on page at n name) (entry_at page at) c.in_default.field-0 c.in_default.ensures.answer)
     ∙ sym (attribute_turn page at n name c.loop-place-test.true) ∙ c.loop-place.invariant ∙ ap (attributes_past page name) (sym c.requires))
 
-pub returns-in-default-record : goal.returns-in-default-record
-returns-in-default-record c =
+pub returns-in_default-record : goal.returns-in_default-record
+returns-in_default-record c =
     let page = c.args.page.now in
     let at = c.loop-place.place in
     let n = c.loop-place.number in
     let name = c.args.name.now in
     answered c.args.page.now c.args.element c.args.name.now None
-    (sym (read_other at (next_place page at) n name (attributes_on page at n name) (entry_at page at) c.in-Ok.found.record c.in-Ok.found.depth c.in-Ok.found.next c.in-default-record.not-Attribute c.in-Ok.ensures.answer)
+    (sym (read_other at (next_place page at) n name (attributes_on page at n name) (entry_at page at) c.in-Ok.found.record c.in-Ok.found.depth c.in-Ok.found.next c.in_default-record.not-Attribute c.in-Ok.ensures.answer)
     ∙ sym (attribute_turn page at n name c.loop-place-test.true) ∙ c.loop-place.invariant ∙ ap (attributes_past page name) (sym c.requires))
 
 pub returns-then-eq : goal.returns-then-eq
@@ -50,7 +50,7 @@ loop-place-preserved c =
     let name = c.args.name.now in
     let r = read_attribute at (next_place page at) n name (attributes_on page at n name) (entry_at page at) c.in-Ok.found.record c.in-Attribute.own_val c.in-Attribute.value c.in-Ok.found.depth c.in-Ok.found.next c.in-Attribute.is c.in-Ok.ensures.answer in
     let other : bytes_eq c.in-Attribute.own.text.now name ≡ false = search (rules, bytes_eq-Decides) in
-    (λ i. attribute_from 0 (c.saturating-add-number.ensures i) (r.onward i) (drop (r.onward i) page) name)
+    (λ i. attribute_from 0 (c.saturating_add-number.ensures i) (r.onward i) (drop (r.onward i) page) name)
     ∙ ap (λ t. cond t (Some (valued (record { spot = record { number = n; place = at }; value = c.in-Attribute.value }))) (attributes_on page at n name)) (sym other)
     ∙ sym r.choice
     ∙ sym (attribute_turn page at n name c.loop-place-test.true) ∙ c.loop-place.invariant

@@ -2,11 +2,11 @@ use Rattle.std.proofs.Common.{◌≡◌, length, get_or, take, drop, arith, leng
 use Rattle.std.proofs.lemmas.List.{take_rest}
 use Rattle.page.proofs.body.attribute.Goals as goal
 
-pub returns-in-err-name : goal.returns-in-err-name
-returns-in-err-name c = search (rules, take_rest)
+pub returns-in_err-name : goal.returns-in_err-name
+returns-in_err-name c = search (rules, take_rest)
 
-pub returns-in-err-value : goal.returns-in-err-value
-returns-in-err-value c = search (rules, take_rest)
+pub returns-in_err-value : goal.returns-in_err-value
+returns-in_err-value c = search (rules, take_rest)
 
 pub returns : goal.returns
 returns c =

@@ -4,23 +4,23 @@ use Rattle.dom.specs.Reading.{le4_at, stepped}
 use Rattle.dom.proofs.Stepping.{first_many, first_cut, first_framed, frame_cut, frame_whole}
 use Rattle.page.proofs.check.check_record.Goals as goal
 
-pub returns-then-number-ge-MAX-RECORDS : goal.returns-then-number-ge-MAX-RECORDS
-returns-then-number-ge-MAX-RECORDS c =
+pub returns-then-number-ge-MAX_RECORDS : goal.returns-then-number-ge-MAX_RECORDS
+returns-then-number-ge-MAX_RECORDS c =
     let a = c.args in
-    rw (first_many a.order a.number a.at a.bytes.now c.if-number-ge-MAX-RECORDS.true)
+    rw (first_many a.order a.number a.at a.bytes.now c.if-number-ge-MAX_RECORDS.true)
 
-pub returns-in-default : goal.returns-in-default
-returns-in-default c =
+pub returns-in_default : goal.returns-in_default
+returns-in_default c =
     let a = c.args in
-    rw (first_cut a.order a.number a.at a.bytes.now (lt-leb 4096 a.number c.if-number-ge-MAX-RECORDS.false) (frame_cut a.bytes.now c.in-default.ensures))
+    rw (first_cut a.order a.number a.at a.bytes.now (lt-leb 4096 a.number c.if-number-ge-MAX_RECORDS.false) (frame_cut a.bytes.now c.in_default.ensures))
 
-pub returns-in-default-kind-of : goal.returns-in-default-kind-of
-returns-in-default-kind-of c =
+pub returns-in_default-kind_of : goal.returns-in_default-kind_of
+returns-in_default-kind_of c =
     let a = c.args in
-    rw (first_framed a.order a.number a.at a.bytes.now c.in-Some.frame (lt-leb 4096 a.number c.if-number-ge-MAX-RECORDS.false) c.in-Some.ensures, ← c.in-default-kind-of.ensures)
+    rw (first_framed a.order a.number a.at a.bytes.now c.in-Some.frame (lt-leb 4096 a.number c.if-number-ge-MAX_RECORDS.false) c.in-Some.ensures, ← c.in_default-kind_of.ensures)
 
-pub check-entry-requires : goal.check-entry-requires
-check-entry-requires c =
+pub check_entry-requires : goal.check_entry-requires
+check_entry-requires c =
     let bs = c.args.bytes.now in
     simp (length-take, length-drop) (omega arith)
 
@@ -28,4 +28,4 @@ pub returns : goal.returns
 returns c =
     let a = c.args in
     let w = frame_whole a.bytes.now c.in-Some.frame c.in-Some.ensures in
-    rw (first_framed a.order a.number a.at a.bytes.now c.in-Some.frame (lt-leb 4096 a.number c.if-number-ge-MAX-RECORDS.false) c.in-Some.ensures, ← c.in-Some-kind-of.ensures, ← ap (λ f. f.size) w.1) c.check-entry.ensures
+    rw (first_framed a.order a.number a.at a.bytes.now c.in-Some.frame (lt-leb 4096 a.number c.if-number-ge-MAX_RECORDS.false) c.in-Some.ensures, ← c.in-Some-kind_of.ensures, ← ap (λ f. f.size) w.1) c.check_entry.ensures

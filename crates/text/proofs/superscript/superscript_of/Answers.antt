@@ -40,8 +40,8 @@ pub returns-in-56 : goal.returns-in-56
 unfolding encoded
 returns-in-56 c = search rules
 
-pub returns-in-default : goal.returns-in-default
+pub returns-in_default : goal.returns-in_default
 unfolding encoded
-returns-in-default c =
+returns-in_default c =
     let nine : c.args.b ≡ 57 = omega (arith, digit_range c.args.b c.requires) in
-    c.as-bytes-in-default.ensures.value ∙ ap (λ b. encoded (superscript b)) (sym nine)
+    c.as_bytes-in_default.ensures.value ∙ ap (λ b. encoded (superscript b)) (sym nine)

@@ -1,4 +1,4 @@
-use Rattle.std.proofs.Common.{◌≡◌, true, false, Ok, Err, Result, ⊎_elim, MatchResult}
+use Rattle.std.proofs.Common.{Ok, Err, Result, ⊎_elim, MatchResult}
 use Rattle.std.proofs.lemmas.Bool.{cases_Bool}
 use Rattle.text.specs.Rfc3629.{octets}
 use Rattle.text.proofs.Rfc.{to_table, from_table}
@@ -11,7 +11,7 @@ both (Err e) P P' Q Q' f g h = g e h
 pub returns : goal.returns
 returns c =
     let bytes = c.args.bytes.now in
-    both c.from-utf8.result _ _ _ _
+    both c.from_utf8.result _ _ _ _
     (λ t h. (h.0, to_table bytes h.1))
     (λ e h. ⊎_elim (λ yes-octets. absurd (h.0 (from_table bytes yes-octets))) (λ n. n) (cases_Bool (octets bytes)))
-    c.from-utf8.ensures.cases
+    c.from_utf8.ensures.cases

@@ -12,16 +12,16 @@ loop-c-preserved c =
     let bs = chars_rest c.loop-c.c-iterator in
     let rest = chars_rest c.next.new.self in
     let e = c.in-Some.ensures.steps.0 in
-    let w = sym c.is-white-space.ensures ∙ c.if-not-is-white-space.false in (
+    let w = sym c.is_white_space.ensures ∙ c.if-not-is_white_space.false in (
       tt,
       tt,
       IsUtf8-past_char bs rest c.in-Some.c c.loop-c.invariant.2 e,
       sym (blank_past_white bs rest c.in-Some.c c.loop-c.invariant.2 e w) ∙ c.loop-c.invariant.3,
     )
 
-pub returns-then-not-is-white-space : goal.returns-then-not-is-white-space
-returns-then-not-is-white-space c =
+pub returns-then-not-is_white_space : goal.returns-then-not-is_white_space
+returns-then-not-is_white_space c =
     let bs = chars_rest c.loop-c.c-iterator in
     let rest = chars_rest c.next.new.self in
-    let w = sym c.is-white-space.ensures ∙ c.if-not-is-white-space.true in
+    let w = sym c.is_white_space.ensures ∙ c.if-not-is_white_space.true in
     sym (blank_past_other bs rest c.in-Some.c c.loop-c.invariant.2 c.in-Some.ensures.steps.0 w) ∙ c.loop-c.invariant.3

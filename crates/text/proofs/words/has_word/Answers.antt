@@ -21,4 +21,4 @@ loop-next-preserved c =
     ∙ c.loop-next.invariant
 
 pub returns : goal.returns
-returns c = sym (ap (one_of c.args.word.now) (words_from_none c.loop-next.rest.now c.in-default.ensures)) ∙ c.loop-next.invariant
+returns c = sym (ap (one_of c.args.word.now) (words_from_none c.loop-next.rest.now c.in_default.ensures)) ∙ c.loop-next.invariant
