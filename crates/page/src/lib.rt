@@ -1,4 +1,6 @@
 //! Pages: the check of a page, and what is asked of an accepted one.
+#![tactic(auto)]
+
 pub mod ask;
 mod body;
 pub mod check;

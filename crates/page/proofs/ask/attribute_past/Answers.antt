@@ -1,9 +1,7 @@
-use Rattle.std.proofs.Common.{◌≡◌, true, false, cond, drop, Some, None, Ok, Err, sym, ap, ◌∙◌, arith, rules}
+use Rattle.std.proofs.Common.{◌≡◌, true, false, cond, drop, Some, None, sym, ap, ◌∙◌, rules}
 use Rattle.std.proofs.lemmas.Slice.Eq.{bytes_eq-Decides}
-use Rattle.std.specs.Option.{option_map}
 use Rattle.std.specs.Str.{bytes_eq}
 use Rattle.dom.specs.Reading.{entry_at, next_place}
-use Rattle.dom.specs.Shown.{shown, seen_at, borrowed}
 use Rattle.dom.specs.Asking.{attribute_from, attributes_past, valued}
 use Rattle.dom.proofs.Asked.{attributes_on, attribute_turn, attribute_end, read_refused, read_other, read_attribute}
 use Rattle.dom.proofs.Answering.{answered}
@@ -35,7 +33,7 @@ returns-then-eq c =
     let at = c.loop-place.place in
     let n = c.loop-place.number in
     let name = c.args.name.now in
-    let r = read_attribute at (next_place page at) n name (attributes_on page at n name) (entry_at page at) c.in-Ok.found.record c.in-Attribute.own_val c.in-Attribute.value c.in-Ok.found.depth c.in-Ok.found.next c.in-Attribute.is c.in-Ok.ensures.answer in
+    let r = read_attribute at (next_place page at) n name (attributes_on page at n name) (entry_at page at) c.in-Ok.found.record c.in-Attribute.own c.in-Attribute.value c.in-Ok.found.depth c.in-Ok.found.next c.in-Attribute.is c.in-Ok.ensures.answer in
     let same : bytes_eq c.in-Attribute.own.text.now name ≡ true = search (rules, bytes_eq-Decides) in
     answered c.args.page.now c.args.element c.args.name.now (Some (valued (record { spot = record { number = n; place = at }; value = c.in-Attribute.value })))
     (ap (λ t. cond t (Some (valued (record { spot = record { number = n; place = at }; value = c.in-Attribute.value }))) (attributes_on page at n name)) (sym same)
@@ -48,7 +46,7 @@ loop-place-preserved c =
     let at = c.loop-place.place in
     let n = c.loop-place.number in
     let name = c.args.name.now in
-    let r = read_attribute at (next_place page at) n name (attributes_on page at n name) (entry_at page at) c.in-Ok.found.record c.in-Attribute.own_val c.in-Attribute.value c.in-Ok.found.depth c.in-Ok.found.next c.in-Attribute.is c.in-Ok.ensures.answer in
+    let r = read_attribute at (next_place page at) n name (attributes_on page at n name) (entry_at page at) c.in-Ok.found.record c.in-Attribute.own c.in-Attribute.value c.in-Ok.found.depth c.in-Ok.found.next c.in-Attribute.is c.in-Ok.ensures.answer in
     let other : bytes_eq c.in-Attribute.own.text.now name ≡ false = search (rules, bytes_eq-Decides) in
     (λ i. attribute_from 0 (c.saturating_add-number.ensures i) (r.onward i) (drop (r.onward i) page) name)
     ∙ ap (λ t. cond t (Some (valued (record { spot = record { number = n; place = at }; value = c.in-Attribute.value }))) (attributes_on page at n name)) (sym other)

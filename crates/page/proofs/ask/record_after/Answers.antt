@@ -1,4 +1,4 @@
-use Rattle.std.proofs.Common.{◌≡◌, ◌+◌, Some, sym, ap, ◌∙◌, arith}
+use Rattle.std.proofs.Common.{◌+◌, Some, sym, ap, ◌∙◌, arith}
 use Rattle.dom.specs.Asking.{spot}
 use Rattle.dom.proofs.Asked.{past_end, past_none, past_framed}
 use Rattle.page.proofs.ask.record_after.Goals as goal

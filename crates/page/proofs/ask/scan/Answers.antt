@@ -1,4 +1,4 @@
-use Rattle.std.proofs.Common.{◌≡◌, ◌+◌, drop, sym, ap, ◌∙◌}
+use Rattle.std.proofs.Common.{◌+◌, drop, sym, ap, ◌∙◌}
 use Rattle.dom.specs.Asking.{node_from}
 use Rattle.dom.proofs.Asked.{turn_cut, turn_here, turn_on, turn_end}
 use Rattle.page.proofs.ask.scan.Goals as goal

@@ -1,6 +1,6 @@
-use Rattle.std.proofs.Common.{◌≡◌, Err, sym, ap, ◌∙◌}
+use Rattle.std.proofs.Common.{Err, sym, ap}
 use Rattle.std.proofs.lemmas.Result.{err_from_is_err_and}
-use Rattle.dom.specs.Reading.{with_depth, body_of, stepped}
+use Rattle.dom.specs.Reading.{body_of}
 use Rattle.dom.proofs.Stepping.{tested_kind, tested_depth, tested_both, body_kind, body_refused, body_read}
 use Rattle.page.proofs.check.check_entry.Goals as goal
 

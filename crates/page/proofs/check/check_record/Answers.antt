@@ -1,6 +1,5 @@
-use Rattle.std.proofs.Common.{◌≡◌, ◌+◌, ◌<◌, ◌≤◌, false, leb, length, get_or, take, drop, sym, ap, ◌∙◌, arith, length-drop, length-take}
+use Rattle.std.proofs.Common.{ap, arith, length-drop, length-take}
 use Rattle.std.proofs.lemmas.Bool.{lt-leb}
-use Rattle.dom.specs.Reading.{le4_at, stepped}
 use Rattle.dom.proofs.Stepping.{first_many, first_cut, first_framed, frame_cut, frame_whole}
 use Rattle.page.proofs.check.check_record.Goals as goal
 

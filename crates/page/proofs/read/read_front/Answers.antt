@@ -1,7 +1,6 @@
-use Rattle.std.proofs.Common.{◌≡◌, ◌+◌, ◌-◌, ◌<◌, ◌≤◌, length, take, drop, Ok, Err, sym, refl, ap, ◌∙◌, arith, length-drop, length-take}
+use Rattle.std.proofs.Common.{◌-◌, take, drop, Err, ap, arith, length-drop, length-take}
 use Rattle.std.proofs.lemmas.Result.{err_from_is_err_and}
-use Rattle.dom.specs.Reading.{body_of, entry_front, le4_at}
-use Rattle.dom.specs.Shown.{shown_at, seen, seen_at}
+use Rattle.dom.specs.Reading.{body_of}
 use Rattle.dom.proofs.Stepping.{front_cut, front_framed, frame_cut, frame_size, body_refused, body_read, found_as}
 use Rattle.page.proofs.read.read_front.Goals as goal
 

@@ -1,8 +1,8 @@
-use Rattle.std.proofs.Common.{◌≡◌, [], Err, sym, refl, ap, ◌∙◌, arith}
-use Rattle.std.proofs.lemmas.List.{take_rest, drop_all}
+use Rattle.std.proofs.Common.{◌≡◌, [], Err, refl}
+use Rattle.std.proofs.lemmas.List.{drop_all}
 use Rattle.parts.specs.declared.Refusal.TheVariants.{Cut}
 use Rattle.dom.specs.Reading.{next_place, entry_at}
-use Rattle.dom.specs.Shown.{seen, seen_at}
+use Rattle.dom.specs.Shown.{seen_at}
 use Rattle.dom.proofs.Stepping.{front_cut}
 use Rattle.dom.proofs.Answering.{record-answers}
 use Rattle.page.proofs.read.read_past.Goals as goal
