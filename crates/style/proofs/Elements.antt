@@ -1,5 +1,5 @@
 -- What is read of an element. Assumes nothing.
-use Rattle.std.proofs.Common.{◌≡◌, ℕ, Bool, true, false, List, Some, None, Ok, Err, Option, Result, sym, refl, ap, ◌∙◌, subst, arith}
+use Rattle.std.proofs.Common.{◌≡◌, ℕ, Bool, false, List, Some, None, Ok, Err, Option, Result, sym, refl, ap, ◌∙◌, arith}
 use Rattle.std.specs.Str.{bytes_eq}
 use Rattle.parts.specs.declared.Namespace.{Namespace}
 use Rattle.parts.specs.declared.Spot.{Spot}
@@ -8,7 +8,6 @@ use Rattle.parts.specs.declared.Part.{Part as Borrowed}
 use Rattle.parts.specs.declared.Record.{Record}
 use Rattle.parts.specs.declared.Record.TheVariants.{Document, Element as AnElement, Text, Comment, Doctype, ProcessingInstruction, Attribute}
 use Rattle.dom.specs.Shown.{Part, Shown, Seen, borrowed, shown}
-use Rattle.dom.specs.Dom.{Dom, Element}
 use Rattle.dom.specs.Dom.Dom.{element}
 use Rattle.dom.specs.Asking.{spot, shown_part, ReadsNode, Valued, AnswersAttribute, first_named}
 use Rattle.style.specs.Source.{Told}

@@ -1,11 +1,11 @@
 -- A cell that declarations enter one after the other holds the cascade's winner. Assumes nothing.
-use Rattle.std.proofs.Common.{◌≡◌, ℕ, Bool, true, false, cond, ◌&&◌, ◌⊎◌, List, [], ◌∷◌, ◌++◌, sym, refl, ap, ◌∙◌, subst, inl, inr, ⊎_elim, append_assoc, append-nil}
+use Rattle.std.proofs.Common.{◌≡◌, true, false, cond, List, [], ◌∷◌, ◌++◌, sym, refl, ap, ◌∙◌, subst, ⊎_elim, append_assoc, append-nil}
 use Rattle.std.proofs.lemmas.Bool.{cases_Bool}
 use Rattle.std.specs.List.{AllByRecursion as All}
 use Rattle.style.specs.declared.cell.Declaration.{Declaration}
 use Rattle.style.specs.declared.cell.WithSpec.{WithSpec}
-use Rattle.style.specs.Cascade.{below, Wins, empty, holding, weight_of, entered, all_entered, HoldsWinner}
-use Rattle.style.proofs.Orders.{below_itself, below_onward, below_one_way}
+use Rattle.style.specs.Cascade.{below, Wins, empty, holding, entered, all_entered, HoldsWinner}
+use Rattle.style.proofs.Orders.{below_onward, below_one_way}
 
 module _ {T : Type 0} where
   all_one : (P : Declaration T → Type 0) (xs : List (Declaration T)) (x : Declaration T) → All P xs → P x → All P (xs ++ (x ∷ []))

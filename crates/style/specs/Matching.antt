@@ -1,8 +1,8 @@
 -- Which rules match an element.
-use Rattle.std.specs.Prelude.{ℕ, ◌+◌, Bool, true, false, cond, List, [], ◌∷◌, length, take, drop, Some, None, codes, fold, Option, nat_le}
+use Rattle.std.specs.Prelude.{ℕ, ◌+◌, Bool, false, cond, List, length, take, drop, Some, None, codes, fold, Option, nat_le}
 use Rattle.std.specs.Str.{bytes_eq}
 use Rattle.text.specs.Infra.{words, one_of}
-use Rattle.dom.specs.Dom.{Element, Tree}
+use Rattle.dom.specs.Dom.{Element}
 use Rattle.dom.specs.Asking.{Valued, first_named}
 use Rattle.style.specs.declared.values.Place.{Place}
 use Rattle.style.specs.declared.values.Specificity.{Specificity}

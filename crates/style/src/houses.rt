@@ -52,7 +52,7 @@ fn with_house_rules(
 }
 
 impl<S: StyleSource> StyleSource for House<S> {
-    ghost meaning = { λ h. house_mean h.rules (meaning h.below) };
+    ghost meaning = { λ h. house_mean h.rules (S.meaning h.below) };
 
     fn style(&self, parent: ComputedStyle, page: &[u8], element: Spot) -> ComputedStyle {
         let answer = self.below.style(parent, page, element);

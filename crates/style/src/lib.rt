@@ -1,4 +1,6 @@
 //! Styles: cascade cells, and the sources that say which style an element has.
+#![tactic(auto)]
+
 pub mod cell;
 pub mod cells;
 pub mod house;

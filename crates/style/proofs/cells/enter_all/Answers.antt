@@ -1,4 +1,4 @@
-use Rattle.std.proofs.Common.{◌≡◌, [], ◌∷◌, ◌++◌, take, sym, ap, ◌∙◌, subst}
+use Rattle.std.proofs.Common.{[], ◌∷◌, ◌++◌, take, sym, ap, ◌∙◌, subst}
 use Rattle.std.proofs.lemmas.List.{take_more, take_all}
 use Rattle.style.specs.Cascade.{entered, all_entered, HoldsWinner}
 use Rattle.style.proofs.Winning.{winner, entered_last}
@@ -10,7 +10,7 @@ loop-d-preserved g c =
     let i = c.loop-d.d-index in
     let d = c.d-item.result in
     let start = c.args.empty in
-    c.maybe-update.ensures
+    c.maybe_update.ensures
     ∙ ap (λ x. entered x d) c.loop-d.invariant
     ∙ sym (entered_last start (take i ds) d)
     ∙ ap (λ x. all_entered start (take i ds ++ (x ∷ []))) c.d-item.is

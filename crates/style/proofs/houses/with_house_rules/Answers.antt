@@ -6,7 +6,7 @@ use Rattle.style.proofs.houses.with_house_rules.Goals as goal
 pub loop-rule-preserved : goal.loop-rule-preserved
 loop-rule-preserved c =
     one_more c.args.page.now c.args.element house_rule_entered c.args.rules.now (λ _ _. c.args.before)
-    c.loop-rule.rule-index c.rule-item.result c.rule-item.result c.loop-rule.style c.with-house-rule-style.result c.loop-rule-test.true c.rule-item.is c.loop-rule.invariant c.with-house-rule-style.ensures
+    c.loop-rule.rule-index c.rule-item.result c.rule-item.result c.loop-rule.style c.with_house_rule-style.result c.loop-rule-test.true c.rule-item.is c.loop-rule.invariant c.with_house_rule-style.ensures
 
 pub returns : goal.returns
 returns c below told es h e kids after q p =

@@ -8,8 +8,8 @@ use Rattle.style.proofs.rules.has_class.Goals as goal
 pub returns-in-Some : goal.returns-in-Some
 returns-in-Some c =
     let w = c.args.word.now in
-    attribute_tested c.args.page.now c.args.element (codes "class") w value_has (Some (valued c.in-Some.found)) c.in-Some.ensures.named c.has-word.result
-    (c.has-word.ensures ∙ ap (λ x. one_of w (words x)) c.as-bytes.ensures.value)
+    attribute_tested c.args.page.now c.args.element (codes "class") w value_has (Some (valued c.in-Some.found)) c.in-Some.ensures.named c.has_word.result
+    (c.has_word.ensures ∙ ap (λ x. one_of w (words x)) c.as_bytes.ensures.value)
 
 pub returns-in-None : goal.returns-in-None
 returns-in-None c = attribute_tested c.args.page.now c.args.element (codes "class") c.args.word.now value_has None c.in-None.ensures.named false refl
