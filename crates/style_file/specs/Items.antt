@@ -1,12 +1,12 @@
 -- The lines of a style file, each as the list of its words.
-use Rattle.std.specs.Prelude.{ℕ, Bool, true, false, cond, List, [], ◌∷◌, length, Some, None, codes, Option, ◌==◌, slice_index_or}
+use Rattle.std.specs.Prelude.{ℕ, Bool, false, cond, List, [], ◌∷◌, length, Some, None, codes, Option, ◌==◌, slice_index_or}
 use Rattle.std.specs.Option.{option_map}
 use Rattle.std.specs.Str.{bytes_eq}
 use Rattle.style.specs.declared.values.StyleOrigin.{StyleOrigin}
 use Rattle.style.specs.declared.values.Specificity.{Specificity}
 use Rattle.style.specs.declared.values.Weight.{Weight}
 use Rattle.style.specs.declared.rule.Tag.{Tag}
-use Rattle.style_file.specs.Words.{then, says, Setting, tag_of, origin_of, bit_of, record_of, count_of, setting_of}
+use Rattle.style_file.specs.Words.{then, Setting, tag_of, origin_of, bit_of, record_of, count_of, setting_of}
 
 pub data Item : Type 0 where
   nothing : Item

@@ -1,12 +1,9 @@
 -- The values of the code, as what they say.
-use Rattle.std.specs.Prelude.{ℕ, Bool, List, map, vec_items}
+use Rattle.std.specs.Prelude.{ℕ, List, map, vec_items}
 use Rattle.style.specs.declared.house.HouseRule.{HouseRule}
 use Rattle.style.specs.declared.style.Property.{Property}
 use Rattle.style.specs.Names.{name_bytes}
 use Rattle.style_file.specs.declared.file.StyleFile.{StyleFile}
-use Rattle.style.specs.declared.values.StyleOrigin.{StyleOrigin}
-use Rattle.style.specs.declared.values.Weight.{Weight}
-use Rattle.style.specs.declared.rule.Tag.{Tag}
 use Rattle.style_file.specs.declared.item.Setting.{Setting as Borrowed}
 use Rattle.style_file.specs.declared.item.Setting.TheVariants.{Plain, Before, After}
 use Rattle.style_file.specs.declared.item.Item.{Item as BorrowedItem}

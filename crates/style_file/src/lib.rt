@@ -1,4 +1,6 @@
 //! Style files: styles written down a line at a time, for a person at a desk.
+#![tactic(auto)]
+
 pub mod add;
 pub mod base;
 pub mod file;

@@ -2,13 +2,13 @@ use Rattle.std.proofs.Common.{map, ◌∙◌, arith, ltb-false, ltb-true}
 use Rattle.style_file.specs.Items.{at, specificity_from, cell_from}
 use Rattle.style_file.proofs.Counted.{at_place, so_many, not_so_many}
 use Rattle.style_file.proofs.line.cell.Goals as goal
-use Rattle.style_file.proofs.line.cell.Goals.{in-default-via-then-words-lt8, in-default-via-else-words-lt8+else-words-lt9}
+use Rattle.style_file.proofs.line.cell.Goals.{in_default-via-then-words-lt8, in_default-via-else-words-lt8+else-words-lt9}
 
-pub returns-in-default : goal.returns-in-default
-returns-in-default c =
-    elim c.in-default.branch [
-      | in-default-via-then-words-lt8 w ↦ not_so_many 8 c.args.words.now _ (λ e. omega (arith, ltb-true, ltb-false))
-      | in-default-via-else-words-lt8+else-words-lt9 w ↦ not_so_many 8 c.args.words.now _ (λ e. omega (arith, ltb-true, ltb-false))
+pub returns-in_default : goal.returns-in_default
+returns-in_default c =
+    elim c.in_default.branch [
+      | in_default-via-then-words-lt8 w ↦ not_so_many 8 c.args.words.now _ (λ e. omega (arith, ltb-true, ltb-false))
+      | in_default-via-else-words-lt8+else-words-lt9 w ↦ not_so_many 8 c.args.words.now _ (λ e. omega (arith, ltb-true, ltb-false))
     ]
 
 pub returns : goal.returns

@@ -2,13 +2,13 @@ use Rattle.std.proofs.Common.{map, get_or, ap, ◌∙◌, arith, ltb-false, ltb-
 use Rattle.style_file.specs.Items.{at, house_from}
 use Rattle.style_file.proofs.Counted.{no_word, at_place, so_many, not_so_many}
 use Rattle.style_file.proofs.line.house.Goals as goal
-use Rattle.style_file.proofs.line.house.Goals.{in-default-via-then-words-lt3, in-default-via-else-words-lt3+else-words-lt4}
+use Rattle.style_file.proofs.line.house.Goals.{in_default-via-then-words-lt3, in_default-via-else-words-lt3+else-words-lt4}
 
-pub returns-in-default : goal.returns-in-default
-returns-in-default c =
-    elim c.in-default.branch [
-      | in-default-via-then-words-lt3 w ↦ not_so_many 3 c.args.words.now _ (λ e. omega (arith, ltb-true, ltb-false))
-      | in-default-via-else-words-lt3+else-words-lt4 w ↦ not_so_many 3 c.args.words.now _ (λ e. omega (arith, ltb-true, ltb-false))
+pub returns-in_default : goal.returns-in_default
+returns-in_default c =
+    elim c.in_default.branch [
+      | in_default-via-then-words-lt3 w ↦ not_so_many 3 c.args.words.now _ (λ e. omega (arith, ltb-true, ltb-false))
+      | in_default-via-else-words-lt3+else-words-lt4 w ↦ not_so_many 3 c.args.words.now _ (λ e. omega (arith, ltb-true, ltb-false))
     ]
 
 pub returns : goal.returns

@@ -1,4 +1,4 @@
-use Rattle.std.proofs.Common.{◌≡◌, ℕ, ◌+◌, ◌≤◌, List, length, Some, None, Option}
+use Rattle.std.proofs.Common.{◌≡◌, ◌+◌, ◌≤◌, length, Some}
 use Rattle.std.specs.Option.{option_map}
 use Rattle.style_file.specs.Reading.{going_on, file_of}
 use Rattle.style_file.specs.Said.{file_said}

@@ -6,4 +6,4 @@ use Rattle.style_file.specs.declared.item.Item.{Item}
 use Rattle.style_file.proofs.file.StyleFile.add.Goals as goal
 
 pub returns-in-Rule : goal.returns-in-Rule
-returns-in-Rule c = subst (λ (i : Item). IfOk c.add-rule.result (λ o. option_map (λ _. file_said c.add-rule.new.self) o ≡ added (file_said c.args.self.now) (said i))) (sym c.in-Rule.is) c.add-rule.ensures
+returns-in-Rule c = subst (λ (i : Item). IfOk c.add_rule.result (λ o. option_map (λ _. file_said c.add_rule.new.self) o ≡ added (file_said c.args.self.now) (said i))) (sym c.in-Rule.is) c.add_rule.ensures
