@@ -5,9 +5,6 @@ use Rattle.std.proofs.lemmas.Slice.Eq.{bytes_eq-Decides}
 use Rattle.std.proofs.lemmas.List.{take_rest}
 use Rattle.bench.specs.Words.{is_dashed, is_records, named, chosen}
 
-pub same_test : (xs ys : List ℕ) (r : Bool) → Decides r (xs ≡ ys) → r ≡ bytes_eq xs ys
-same_test xs ys r h = search (rules, bytes_eq-Decides)
-
 -- w is the first word, of the bytes t
 module _ {X : Type 0} (f : X → List ℕ) where
   pub none_named : (xs : List X) → length xs < 1 → ◌≡◌ {A = Option (List ℕ)} (Some (codes "page.bin")) (named (map f xs))

@@ -5,7 +5,7 @@ ghost use Rattle.bench.specs.Cells.{origin_name, digit_of, weight_text, display_
 ghost use Rattle.bench.specs.Values.{value_text};
 
 use crate::hex::{write_hex, write_hex_or_dash};
-use std::fmt;
+use std::alloc::AllocError;
 use style::cell::WithSpec;
 use style::style::ComputedStyle;
 use style::values::{Colour, Display, Place, Specificity, StyleOrigin, Weight, WhiteSpace};
@@ -29,7 +29,7 @@ fn digit_of(flag: bool) -> u8
 }
 
 /// Adds origin, importance and specificity.
-fn write_weight(out: &mut String, weight: Weight) -> fmt::Result
+fn write_weight(out: &mut String, weight: Weight) -> Result<(), AllocError>
     ensures { OnOk result (string_bytes out.new ≡ string_bytes out.old ++ weight_text weight) }
 {
     let origin = origin_name(weight.origin);
@@ -72,7 +72,7 @@ fn white_space_name(white_space: WhiteSpace) -> &'static str
     }
 }
 
-fn write_value(out: &mut String, value: Value<'_>) -> fmt::Result
+fn write_value(out: &mut String, value: Value<'_>) -> Result<(), AllocError>
     ensures { OnOk result (string_bytes out.new ≡ string_bytes out.old ++ value_text value.entry) }
 {
     match value {
@@ -89,7 +89,7 @@ fn write_value(out: &mut String, value: Value<'_>) -> fmt::Result
     }
 }
 
-fn write_comma(out: &mut String, any: bool) -> fmt::Result
+fn write_comma(out: &mut String, any: bool) -> Result<(), AllocError>
     ensures { OnOk result (string_bytes out.new ≡ string_bytes out.old ++ (if any then codes "," else [])) }
 {
     if any { write!(out, ",") } else { Ok(()) }
@@ -102,7 +102,7 @@ fn write_filled(
     name: &str,
     value: Value<'_>,
     weight: Weight,
-) -> fmt::Result
+) -> Result<(), AllocError>
     ensures { OnOk result (string_bytes out.new ≡ string_bytes out.old ++ cell_text any name.now (Some (value_text value.entry)) weight) }
 {
     write_comma(out, any)?;
@@ -118,7 +118,7 @@ fn write_cell(
     name: &str,
     value: Option<Value<'_>>,
     weight: Weight,
-) -> Result<bool, fmt::Error>
+) -> Result<bool, AllocError>
     ensures { IfOk result (λ more. (more ≡ (any || is_some (option_map value_text value.entry))) × (string_bytes out.new ≡ string_bytes out.old ++ cell_text any name.now (option_map value_text value.entry) weight)) }
 {
     match value {
@@ -179,14 +179,14 @@ fn text_of<'a>(sheet: &'a [u8], cell: &WithSpec<Place>) -> Option<Value<'a>>
     }
 }
 
-fn write_dash(out: &mut String, any: bool) -> fmt::Result
+fn write_dash(out: &mut String, any: bool) -> Result<(), AllocError>
     ensures { OnOk result (string_bytes out.new ≡ string_bytes out.old ++ cells_text any []) }
 {
     if any { Ok(()) } else { write!(out, "-") }
 }
 
 /// Adds the cells from the texts on.
-fn write_texts(out: &mut String, any: bool, style: &ComputedStyle, sheet: &[u8]) -> fmt::Result
+fn write_texts(out: &mut String, any: bool, style: &ComputedStyle, sheet: &[u8]) -> Result<(), AllocError>
     ensures { OnOk result (string_bytes out.new ≡ string_bytes out.old ++ cells_text any (drop 4 (cells_of sheet.now style.now))) }
 {
     let before = text_of(sheet, &style.content_before);
@@ -197,7 +197,7 @@ fn write_texts(out: &mut String, any: bool, style: &ComputedStyle, sheet: &[u8])
 }
 
 /// Adds the cells from the display on.
-fn write_modes(out: &mut String, any: bool, style: &ComputedStyle, sheet: &[u8]) -> fmt::Result
+fn write_modes(out: &mut String, any: bool, style: &ComputedStyle, sheet: &[u8]) -> Result<(), AllocError>
     ensures { OnOk result (string_bytes out.new ≡ string_bytes out.old ++ cells_text any (drop 2 (cells_of sheet.now style.now))) }
 {
     let display = display_of(&style.display);
@@ -208,7 +208,7 @@ fn write_modes(out: &mut String, any: bool, style: &ComputedStyle, sheet: &[u8])
 }
 
 /// Adds the style's cells, with commas between them, or a dash if none has a value.
-pub(crate) fn write_cells(out: &mut String, style: &ComputedStyle, sheet: &[u8]) -> fmt::Result
+pub(crate) fn write_cells(out: &mut String, style: &ComputedStyle, sheet: &[u8]) -> Result<(), AllocError>
     ensures { OnOk result (string_bytes out.new ≡ string_bytes out.old ++ cells_text false (cells_of sheet.now style.now)) }
 {
     let colour = colour_of(&style.colour);

@@ -2,7 +2,7 @@
 ghost use Rattle.std.specs.Prelude.{◌≡◌, ◌<◌, ◌++◌, string_bytes, OnOk};
 ghost use Rattle.bench.specs.Lines.{hex_digit, hex, hex_or_dash};
 
-use std::fmt;
+use std::alloc::AllocError;
 
 fn digit(value: u8) -> char
     requires { value < 16 }
@@ -16,7 +16,7 @@ fn digit(value: u8) -> char
 }
 
 /// Adds two digits for each byte.
-pub(crate) fn write_hex(out: &mut String, bytes: &[u8]) -> fmt::Result
+pub(crate) fn write_hex(out: &mut String, bytes: &[u8]) -> Result<(), AllocError>
     ensures { OnOk result (string_bytes out.new ≡ string_bytes out.old ++ hex bytes.now) }
 {
     for byte in bytes {
@@ -28,7 +28,7 @@ pub(crate) fn write_hex(out: &mut String, bytes: &[u8]) -> fmt::Result
 }
 
 /// The same, or a dash where there are no bytes.
-pub(crate) fn write_hex_or_dash(out: &mut String, bytes: &[u8]) -> fmt::Result
+pub(crate) fn write_hex_or_dash(out: &mut String, bytes: &[u8]) -> Result<(), AllocError>
     ensures { OnOk result (string_bytes out.new ≡ string_bytes out.old ++ hex_or_dash bytes.now) }
 {
     if bytes.is_empty() {

@@ -5,7 +5,7 @@ ghost use Rattle.bench.specs.Lines.{hex, hex_or_dash, namespace_name, described,
 
 use crate::hex::{write_hex, write_hex_or_dash};
 use parts::{Found, Namespace, Record};
-use std::fmt;
+use std::alloc::AllocError;
 
 fn name_of(namespace: Namespace) -> &'static str
     ensures { result.now ≡ namespace_name namespace }
@@ -17,7 +17,7 @@ fn name_of(namespace: Namespace) -> &'static str
     }
 }
 
-fn write_element(out: &mut String, namespace: Namespace, name: &[u8]) -> fmt::Result
+fn write_element(out: &mut String, namespace: Namespace, name: &[u8]) -> Result<(), AllocError>
     ensures { OnOk result (string_bytes out.new ≡ string_bytes out.old ++ (codes "element " ++ (namespace_name namespace ++ (codes " " ++ hex name.now)))) }
 {
     let space = name_of(namespace);
@@ -25,14 +25,14 @@ fn write_element(out: &mut String, namespace: Namespace, name: &[u8]) -> fmt::Re
     write_hex(out, name)
 }
 
-fn write_text(out: &mut String, text: &[u8]) -> fmt::Result
+fn write_text(out: &mut String, text: &[u8]) -> Result<(), AllocError>
     ensures { OnOk result (string_bytes out.new ≡ string_bytes out.old ++ (codes "text " ++ hex_or_dash text.now)) }
 {
     write!(out, "text ")?;
     write_hex_or_dash(out, text)
 }
 
-fn write_attribute(out: &mut String, name: &[u8], value: &[u8]) -> fmt::Result
+fn write_attribute(out: &mut String, name: &[u8], value: &[u8]) -> Result<(), AllocError>
     ensures { OnOk result (string_bytes out.new ≡ string_bytes out.old ++ (codes "attribute " ++ (hex name.now ++ (codes " " ++ hex_or_dash value.now)))) }
 {
     write!(out, "attribute ")?;
@@ -42,7 +42,7 @@ fn write_attribute(out: &mut String, name: &[u8], value: &[u8]) -> fmt::Result
 }
 
 /// Adds the record's kind and its fields.
-pub(crate) fn describe(out: &mut String, what: Record<'_>) -> fmt::Result
+pub(crate) fn describe(out: &mut String, what: Record<'_>) -> Result<(), AllocError>
     ensures { OnOk result (string_bytes out.new ≡ string_bytes out.old ++ described (shown what.entry)) }
 {
     match what {
@@ -61,7 +61,7 @@ pub(crate) fn describe(out: &mut String, what: Record<'_>) -> fmt::Result
 }
 
 /// Adds the line of the record with that number.
-pub(crate) fn write_line(out: &mut String, number: usize, found: Found<'_>) -> fmt::Result
+pub(crate) fn write_line(out: &mut String, number: usize, found: Found<'_>) -> Result<(), AllocError>
     ensures { OnOk result (string_bytes out.new ≡ string_bytes out.old ++ line number found.entry.depth (shown found.entry.«record»)) }
 {
     let depth = found.depth;

@@ -7,11 +7,10 @@ ghost use Rattle.bench.specs.Lines.{lines, listed};
 use crate::line::write_line;
 use page::check::check;
 use page::read::record_at;
-use std::alloc::Global;
-use std::fmt;
+use std::alloc::{AllocError, Global};
 
 /// Adds the lines of the records of an accepted page, which are so many.
-fn write_records(out: &mut String, page: &[u8], count: usize) -> fmt::Result
+fn write_records(out: &mut String, page: &[u8], count: usize) -> Result<(), AllocError>
     requires { Ok count ≡ counted 0 (entries page.now) }
     ensures { OnOk result ((es : List Entry) → entries page.now ≡ Ok es → string_bytes out.new ≡ string_bytes out.old ++ lines 0 es) }
 {
@@ -27,7 +26,7 @@ fn write_records(out: &mut String, page: &[u8], count: usize) -> fmt::Result
 }
 
 /// A line for each record and a last line, or the refusal alone.
-pub(crate) fn listing(heap: Global, page: &[u8]) -> Result<String, fmt::Error>
+pub(crate) fn listing(heap: Global, page: &[u8]) -> Result<String, AllocError>
     ensures { IfOk result (λ s. string_bytes s ≡ listed (entries page.now)) }
 {
     let mut out = String::new(heap);

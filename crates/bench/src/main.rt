@@ -1,6 +1,7 @@
 //! Lists the records of a page: `bench [--records] [FILE]`.
-use anyhow::anyhow;
+use anyhow::{Context, anyhow};
 use listing::listing;
+use std::process::ExitCode;
 use std::{env, fs};
 use words::file_in;
 
@@ -22,17 +23,20 @@ fn read_page(rt: &HostRuntime, file: &str) -> anyhow::Result<Vec<u8>> {
 
 fn run(rt: &HostRuntime) -> anyhow::Result<()> {
     let words = env::args(rt)?.skip(1).collect::<Vec<String>>(rt.alloc())?;
-    let file = file_in(words.as_slice()).ok_or(USAGE)?;
+    let file = file_in(words.as_slice()).context(USAGE)?;
     let page = read_page(rt, file)?;
     let lines = listing(rt.alloc(), page.as_slice())?;
     rt.print(lines.as_str())?;
     Ok(())
 }
 
-fn main(rt: HostRuntime) -> anyhow::Result<()> {
-    let result = run(&rt);
-    if let Err(error) = &result {
-        eprintln!(rt; "bench: {error}")?;
+fn main(rt: HostRuntime) -> ExitCode {
+    match run(&rt) {
+        Ok(()) => ExitCode::SUCCESS,
+        Err(error) => {
+            // the status says the same where standard error takes nothing
+            let _ = eprintln!(rt; "bench: {error}");
+            ExitCode::FAILURE
+        }
     }
-    result
 }

@@ -10,8 +10,7 @@ use crate::line::{describe, write_line};
 use page::check::check;
 use page::read::record_at;
 use parts::{Found, Record, Spot};
-use std::alloc::Global;
-use std::fmt;
+use std::alloc::{AllocError, Global};
 use style::source::StyleSource;
 use style::style::ComputedStyle;
 
@@ -22,7 +21,7 @@ fn write_styled_line(
     found: Found<'_>,
     style: &ComputedStyle,
     sheet: &[u8],
-) -> fmt::Result
+) -> Result<(), AllocError>
     ensures { OnOk result (string_bytes out.new ≡ string_bytes out.old ++ styled_line sheet.now number found.entry.depth (shown found.entry.«record») style.now) }
 {
     let depth = found.depth;
@@ -41,7 +40,7 @@ fn write_record<S: StyleSource>(
     sheet: &[u8],
     spot: Spot,
     found: Found<'_>,
-) -> fmt::Result
+) -> Result<(), AllocError>
     ensures { OnOk result ((here : List ℕ) × (string_bytes out.new ≡ string_bytes out.old ++ here) × Printed page.now (S.StyleSource.meaning source.now) sheet.now spot found.entry.depth (shown found.entry.«record») here) }
 {
     match found.record {

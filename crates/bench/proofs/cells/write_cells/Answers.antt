@@ -6,10 +6,10 @@ use Rattle.bench.proofs.cells.write_cells.Goals as goal
 pub returns : goal.returns
 returns c =
     let all = cells_of c.args.sheet.now c.args.style.now in
-    let r = c.write-modes.result in
+    let r = c.write_modes.result in
     let start = string_bytes c.args.out.now in
-    let mid = string_bytes c.write-cell.new.out in
-    let last = string_bytes c.write-cell-2.new.out in
-    let final = string_bytes c.write-modes.new.out in
-    cell_added r start mid final false c.in-ok-any.any (codes "colour") _ _ _ _ (drop 1 all) c.colour-of-colour.ensures c.weight.ensures c.in-ok-any.ensures
-    (cell_added r mid last final c.in-ok-any.any c.in-ok-any-2.any (codes "bg") _ _ _ _ (drop 2 all) c.colour-of-bg-colour.ensures c.weight-2.ensures c.in-ok-any-2.ensures c.write-modes.ensures)
+    let mid = string_bytes c.write_cell.new.out in
+    let last = string_bytes c.write_cell-2.new.out in
+    let final = string_bytes c.write_modes.new.out in
+    cell_added r start mid final false c.in_ok-any.any (codes "colour") _ _ _ _ (drop 1 all) c.colour_of-colour.ensures c.weight.ensures c.in_ok-any.ensures
+    (cell_added r mid last final c.in_ok-any.any c.in_ok-any-2.any (codes "bg") _ _ _ _ (drop 2 all) c.colour_of-bg_colour.ensures c.weight-2.ensures c.in_ok-any-2.ensures c.write_modes.ensures)

@@ -11,7 +11,7 @@ returns c =
     let name = c.args.name.now ++ codes "=" in
     let value = value_text c.args.value in
     let weight = weight_text c.args.weight in
-    let named = onto start (string_bytes c.write-comma.new.out) (string_bytes c.write.new.self) comma name c.in-ok-write-comma.ensures c.in-ok-write.ensures.bytes in
-    let valued = onto start (string_bytes c.write.new.self) (string_bytes c.write-value.new.out) (comma ++ name) value named c.in-ok-write-value.ensures in
+    let named = onto start (string_bytes c.write_comma.new.out) (string_bytes c.write.new.self) comma name c.in_ok-write_comma.ensures c.in_ok-write.ensures.bytes in
+    let valued = onto start (string_bytes c.write.new.self) (string_bytes c.write_value.new.out) (comma ++ name) value named c.in_ok-write_value.ensures in
     let e : ((comma ++ name) ++ value) ++ weight ≡ cell_text c.args.any c.args.name.now (Some value) c.args.weight = simp append_assoc in
-    adds_last c.write-weight.result start (string_bytes c.write-value.new.out) (string_bytes c.write-weight.new.out) ((comma ++ name) ++ value) weight (cell_text c.args.any c.args.name.now (Some value) c.args.weight) e valued c.write-weight.ensures
+    adds_last c.write_weight.result start (string_bytes c.write_value.new.out) (string_bytes c.write_weight.new.out) ((comma ++ name) ++ value) weight (cell_text c.args.any c.args.name.now (Some value) c.args.weight) e valued c.write_weight.ensures

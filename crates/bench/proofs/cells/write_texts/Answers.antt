@@ -6,10 +6,10 @@ use Rattle.bench.proofs.cells.write_texts.Goals as goal
 pub returns : goal.returns
 returns c =
     let all = cells_of c.args.sheet.now c.args.style.now in
-    let r = c.write-dash.result in
+    let r = c.write_dash.result in
     let start = string_bytes c.args.out.now in
-    let mid = string_bytes c.write-cell.new.out in
-    let last = string_bytes c.write-cell-2.new.out in
-    let final = string_bytes c.write-dash.new.out in
-    cell_added r start mid final c.args.any c.in-ok-any.any (codes "before") _ _ _ _ (drop 5 all) c.text-of-before.ensures c.weight.ensures c.in-ok-any.ensures
-    (cell_added r mid last final c.in-ok-any.any c.in-ok-any-2.any (codes "after") _ _ _ _ (drop 6 all) c.text-of-after.ensures c.weight-2.ensures c.in-ok-any-2.ensures c.write-dash.ensures)
+    let mid = string_bytes c.write_cell.new.out in
+    let last = string_bytes c.write_cell-2.new.out in
+    let final = string_bytes c.write_dash.new.out in
+    cell_added r start mid final c.args.any c.in_ok-any.any (codes "before") _ _ _ _ (drop 5 all) c.text_of-before.ensures c.weight.ensures c.in_ok-any.ensures
+    (cell_added r mid last final c.in_ok-any.any c.in_ok-any-2.any (codes "after") _ _ _ _ (drop 6 all) c.text_of-after.ensures c.weight-2.ensures c.in_ok-any-2.ensures c.write_dash.ensures)

@@ -9,8 +9,8 @@ returns c =
     let name = hex c.args.name.now in
     let value = hex_or_dash c.args.value.now in
     let all = codes "attribute " ++ (name ++ (codes " " ++ value)) in
-    let named = onto start (string_bytes c.write.new.self) (string_bytes c.write-hex.new.out) (codes "attribute ") name c.in-ok-write.ensures.bytes c.in-ok-write-hex.ensures in
-    let spaced = onto start (string_bytes c.write-hex.new.out) (string_bytes c.write-2.new.self) (codes "attribute " ++ name) (codes " ") named c.in-ok-write-2.ensures.bytes in
+    let named = onto start (string_bytes c.write.new.self) (string_bytes c.write_hex.new.out) (codes "attribute ") name c.in_ok-write.ensures.bytes c.in_ok-write_hex.ensures in
+    let spaced = onto start (string_bytes c.write_hex.new.out) (string_bytes c.write-2.new.self) (codes "attribute " ++ name) (codes " ") named c.in_ok-write-2.ensures.bytes in
     let e : ((codes "attribute " ++ name) ++ codes " ") ++ value ≡ all =
     append_assoc (codes "attribute " ++ name) (codes " ") value ∙ append_assoc (codes "attribute ") name (codes " " ++ value) in
-    adds_last c.write-hex-or-dash.result start (string_bytes c.write-2.new.self) (string_bytes c.write-hex-or-dash.new.out) ((codes "attribute " ++ name) ++ codes " ") value all e spaced c.write-hex-or-dash.ensures
+    adds_last c.write_hex_or_dash.result start (string_bytes c.write-2.new.self) (string_bytes c.write_hex_or_dash.new.out) ((codes "attribute " ++ name) ++ codes " ") value all e spaced c.write_hex_or_dash.ensures

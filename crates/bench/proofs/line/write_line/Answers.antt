@@ -12,7 +12,7 @@ returns c =
     let front = number ++ (codes " " ++ (depth ++ codes " ")) in
     let what = described (shown c.args.found.record) in
     let all = line c.args.number c.args.found.depth (shown c.args.found.record) in
-    let told = onto start (string_bytes c.write.new.self) (string_bytes c.describe.new.out) front what c.in-ok-write.ensures.bytes c.in-ok-describe.ensures in
+    let told = onto start (string_bytes c.write.new.self) (string_bytes c.describe.new.out) front what c.in_ok-write.ensures.bytes c.in_ok-describe.ensures in
     let e : (front ++ what) ++ codes "\n" ≡ all =
     append_assoc front what (codes "\n") ∙ append_assoc number (codes " " ++ (depth ++ codes " ")) (what ++ codes "\n")
     ∙ ap (λ xs. number ++ (codes " " ++ xs)) (append_assoc depth (codes " ") (what ++ codes "\n")) in

@@ -6,4 +6,4 @@ use Rattle.bench.proofs.line.write_text.Goals as goal
 pub returns : goal.returns
 returns c =
     let text = hex_or_dash c.args.text.now in
-    adds_last c.write-hex-or-dash.result (string_bytes c.args.out.now) (string_bytes c.write.new.self) (string_bytes c.write-hex-or-dash.new.out) (codes "text ") text (codes "text " ++ text) refl c.in-ok-write.ensures.bytes c.write-hex-or-dash.ensures
+    adds_last c.write_hex_or_dash.result (string_bytes c.args.out.now) (string_bytes c.write.new.self) (string_bytes c.write_hex_or_dash.new.out) (codes "text ") text (codes "text " ++ text) refl c.in_ok-write.ensures.bytes c.write_hex_or_dash.ensures

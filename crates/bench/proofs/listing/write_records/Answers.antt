@@ -8,7 +8,7 @@ use Rattle.bench.proofs.listing.write_records.Goals as goal
 pub unreachable-requires : goal.unreachable-requires
 unreachable-requires c =
     let i = c.loop-number.invariant in
-    no_refusal c.args.page.now c.loop-number.place c.loop-number.number c.args.count i.0 c.loop-number-test.true i.2 i.5 i.4 c.in-default.field-0 c.in-default.ensures.answer
+    no_refusal c.args.page.now c.loop-number.place c.loop-number.number c.args.count i.0 c.loop-number-test.true i.2 i.5 i.4 c.in_default.field-0 c.in_default.ensures.answer
 
 pub loop-number-preserved : goal.loop-number-preserved
 loop-number-preserved c =
@@ -19,7 +19,7 @@ loop-number-preserved c =
     let out = string_bytes c.loop-number.out in
     let here = line n f.depth (shown f.record) in
     let after = lines (n + 1) t.left in
-    (t.passed ∷ i.0, i.1, t.left, i.3, t.reads, t.few, ap (λ xs. xs ++ after) c.in-ok-write-line.ensures ∙ append_assoc out here after ∙ ap (λ xs. out ++ xs) (sym t.lined) ∙ i.6)
+    (t.passed ∷ i.0, i.1, t.left, i.3, t.reads, t.few, ap (λ xs. xs ++ after) c.in_ok-write_line.ensures ∙ append_assoc out here after ∙ ap (λ xs. out ++ xs) (sym t.lined) ∙ i.6)
 
 pub returns : goal.returns
 returns c es h =

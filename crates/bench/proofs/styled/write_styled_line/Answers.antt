@@ -14,8 +14,8 @@ returns c =
     let front = decimal c.args.number ++ (codes " " ++ (decimal c.args.found.depth ++ codes " ")) in
     let cells = cells_text false (cells_of c.args.sheet.now style) in
     let all = styled_line c.args.sheet.now c.args.number c.args.found.depth what style in
-    let told = onto start (string_bytes c.write.new.self) (string_bytes c.describe.new.out) front (described what) c.in-ok-write.ensures.bytes c.in-ok-describe.ensures in
-    let named = onto start (string_bytes c.describe.new.out) (string_bytes c.write-2.new.self) (front ++ described what) (codes " style=") told c.in-ok-write-2.ensures.bytes in
-    let filled = onto start (string_bytes c.write-2.new.self) (string_bytes c.write-cells.new.out) ((front ++ described what) ++ codes " style=") cells named c.in-ok-write-cells.ensures in
+    let told = onto start (string_bytes c.write.new.self) (string_bytes c.describe.new.out) front (described what) c.in_ok-write.ensures.bytes c.in_ok-describe.ensures in
+    let named = onto start (string_bytes c.describe.new.out) (string_bytes c.write-2.new.self) (front ++ described what) (codes " style=") told c.in_ok-write-2.ensures.bytes in
+    let filled = onto start (string_bytes c.write-2.new.self) (string_bytes c.write_cells.new.out) ((front ++ described what) ++ codes " style=") cells named c.in_ok-write_cells.ensures in
     let e : (((front ++ described what) ++ codes " style=") ++ cells) ++ codes "\n" ≡ all = simp append_assoc in
-    adds_last c.writeln.result start (string_bytes c.write-cells.new.out) (string_bytes c.writeln.new.self) (((front ++ described what) ++ codes " style=") ++ cells) (codes "\n") all e filled c.writeln.ensures.bytes
+    adds_last c.writeln.result start (string_bytes c.write_cells.new.out) (string_bytes c.writeln.new.self) (((front ++ described what) ++ codes " style=") ++ cells) (codes "\n") all e filled c.writeln.ensures.bytes
