@@ -186,7 +186,12 @@ fn write_dash(out: &mut String, any: bool) -> Result<(), AllocError>
 }
 
 /// Adds the cells from the texts on.
-fn write_texts(out: &mut String, any: bool, style: &ComputedStyle, sheet: &[u8]) -> Result<(), AllocError>
+fn write_texts(
+    out: &mut String,
+    any: bool,
+    style: &ComputedStyle,
+    sheet: &[u8],
+) -> Result<(), AllocError>
     ensures { OnOk result (string_bytes out.new ≡ string_bytes out.old ++ cells_text any (drop 4 (cells_of sheet.now style.now))) }
 {
     let before = text_of(sheet, &style.content_before);
@@ -197,7 +202,12 @@ fn write_texts(out: &mut String, any: bool, style: &ComputedStyle, sheet: &[u8])
 }
 
 /// Adds the cells from the display on.
-fn write_modes(out: &mut String, any: bool, style: &ComputedStyle, sheet: &[u8]) -> Result<(), AllocError>
+fn write_modes(
+    out: &mut String,
+    any: bool,
+    style: &ComputedStyle,
+    sheet: &[u8],
+) -> Result<(), AllocError>
     ensures { OnOk result (string_bytes out.new ≡ string_bytes out.old ++ cells_text any (drop 2 (cells_of sheet.now style.now))) }
 {
     let display = display_of(&style.display);
@@ -208,7 +218,11 @@ fn write_modes(out: &mut String, any: bool, style: &ComputedStyle, sheet: &[u8])
 }
 
 /// Adds the style's cells, with commas between them, or a dash if none has a value.
-pub(crate) fn write_cells(out: &mut String, style: &ComputedStyle, sheet: &[u8]) -> Result<(), AllocError>
+pub(crate) fn write_cells(
+    out: &mut String,
+    style: &ComputedStyle,
+    sheet: &[u8],
+) -> Result<(), AllocError>
     ensures { OnOk result (string_bytes out.new ≡ string_bytes out.old ++ cells_text false (cells_of sheet.now style.now)) }
 {
     let colour = colour_of(&style.colour);

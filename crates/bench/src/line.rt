@@ -61,7 +61,11 @@ pub(crate) fn describe(out: &mut String, what: Record<'_>) -> Result<(), AllocEr
 }
 
 /// Adds the line of the record with that number.
-pub(crate) fn write_line(out: &mut String, number: usize, found: Found<'_>) -> Result<(), AllocError>
+pub(crate) fn write_line(
+    out: &mut String,
+    number: usize,
+    found: Found<'_>,
+) -> Result<(), AllocError>
     ensures { OnOk result (string_bytes out.new ≡ string_bytes out.old ++ line number found.entry.depth (shown found.entry.«record»)) }
 {
     let depth = found.depth;

@@ -1,4 +1,6 @@
 //! Lists the records of a page: `bench [--records] [FILE]`.
+#![tactic(auto)]
+
 use anyhow::{Context, anyhow};
 use listing::listing;
 use std::process::ExitCode;

@@ -1,4 +1,6 @@
 //! Tries pages whose answers are known.
+#![tactic(auto)]
+
 ghost use Rattle.std.specs.Prelude.{◌≡◌};
 ghost use Rattle.dom.specs.Reading.{entries, counted};
 ghost use Rattle.replay.specs.Built.{answered};

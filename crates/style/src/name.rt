@@ -9,4 +9,4 @@ pub struct Name {
     ghost short: { len ≤ 16 },
 }
 
-pub mod text;
+pub mod octets;

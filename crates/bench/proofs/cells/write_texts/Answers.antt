@@ -1,4 +1,4 @@
-use Rattle.std.proofs.Common.{◌≡◌, false, drop, string_bytes, codes}
+use Rattle.std.proofs.Common.{drop, string_bytes, codes}
 use Rattle.bench.specs.Cells.{cells_of}
 use Rattle.bench.proofs.Adding.{cell_added}
 use Rattle.bench.proofs.cells.write_texts.Goals as goal

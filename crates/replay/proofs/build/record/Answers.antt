@@ -10,11 +10,11 @@ returns c =
     let p = c.args.payload.now in
     let k = c.args.kind in
     let d = c.args.depth in
-    let all : vec_items c.extend-from-slice-4.new.self ≡ start ++ framed k d p =
-    framed_from start (vec_items c.extend-from-slice.new.self) (vec_items c.extend-from-slice-2.new.self) (vec_items c.extend-from-slice-3.new.self) (vec_items c.extend-from-slice-4.new.self)
-    c.to-le-bytes.result c.to-le-bytes-2.result c.to-le-bytes-3.result p (length p + 4) k d (omega arith) (omega arith) (omega (arith, c.ranges.kind)) (omega (arith, c.ranges.depth))
-    c.to-le-bytes.ensures c.to-le-bytes-2.ensures c.to-le-bytes-3.ensures
-    c.in-ok-extend-from-slice.ensures.items c.in-ok-extend-from-slice-2.ensures.items c.in-ok-extend-from-slice-3.ensures.items c.in-ok-extend-from-slice-4.ensures.items in
+    let all : vec_items c.extend_from_slice-4.new.self ≡ start ++ framed k d p =
+    framed_from start (vec_items c.extend_from_slice.new.self) (vec_items c.extend_from_slice-2.new.self) (vec_items c.extend_from_slice-3.new.self) (vec_items c.extend_from_slice-4.new.self)
+    c.to_le_bytes.result c.to_le_bytes-2.result c.to_le_bytes-3.result p (length p + 4) k d (omega arith) (omega arith) (omega (arith, c.ranges.kind)) (omega (arith, c.ranges.depth))
+    c.to_le_bytes.ensures c.to_le_bytes-2.ensures c.to_le_bytes-3.ensures
+    c.in_ok-extend_from_slice.ensures.items c.in_ok-extend_from_slice-2.ensures.items c.in_ok-extend_from_slice-3.ensures.items c.in_ok-extend_from_slice-4.ensures.items in
     record {
       bytes = all;
       format = λ b e f. all ∙ ap (λ x. start ++ framed x d p) (sym e) ∙ ap (λ q. start ++ framed (kind_number (kind b)) d q) (sym f);
