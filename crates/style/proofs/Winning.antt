@@ -1,22 +1,22 @@
 -- A cell that declarations enter one after the other holds the cascade's winner. Assumes nothing.
 use Rattle.std.proofs.Common.{◌≡◌, true, false, cond, List, [], ◌∷◌, ◌++◌, sym, refl, ap, ◌∙◌, subst, ⊎_elim, append_assoc, append-nil}
 use Rattle.std.proofs.lemmas.Bool.{cases_Bool}
-use Rattle.std.specs.List.{AllByRecursion as All}
+use Rattle.std.specs.List.{AllByRecursion}
 use Rattle.style.specs.declared.cell.Declaration.{Declaration}
 use Rattle.style.specs.declared.cell.WithSpec.{WithSpec}
 use Rattle.style.specs.Cascade.{below, Wins, empty, holding, entered, all_entered, HoldsWinner}
 use Rattle.style.proofs.Orders.{below_onward, below_one_way}
 
 module _ {T : Type 0} where
-  all_one : (P : Declaration T → Type 0) (xs : List (Declaration T)) (x : Declaration T) → All P xs → P x → All P (xs ++ (x ∷ []))
+  all_one : (P : Declaration T → Type 0) (xs : List (Declaration T)) (x : Declaration T) → AllByRecursion P xs → P x → AllByRecursion P (xs ++ (x ∷ []))
   all_one P [] x a p = (p, tt)
   all_one P (y ∷ xs) x a p = (a.0, all_one P xs x a.1 p)
 
-  all_join : (P : Declaration T → Type 0) (xs ys : List (Declaration T)) → All P xs → All P ys → All P (xs ++ ys)
+  all_join : (P : Declaration T → Type 0) (xs ys : List (Declaration T)) → AllByRecursion P xs → AllByRecursion P ys → AllByRecursion P (xs ++ ys)
   all_join P [] ys a b = b
   all_join P (x ∷ xs) ys a b = (a.0, all_join P xs ys a.1 b)
 
-  all_map : (P Q : Declaration T → Type 0) (xs : List (Declaration T)) → ((x : Declaration T) → P x → Q x) → All P xs → All Q xs
+  all_map : (P Q : Declaration T → Type 0) (xs : List (Declaration T)) → ((x : Declaration T) → P x → Q x) → AllByRecursion P xs → AllByRecursion Q xs
   all_map P Q [] f a = tt
   all_map P Q (x ∷ xs) f a = (f x a.0, all_map P Q xs f a.1)
 
@@ -33,9 +33,9 @@ module _ {T : Type 0} where
       let earlier = h.0 in
       let later = h.1 in
       let P : Declaration T → Type 0 = λ e. below d.weight e.weight ≡ false in
-      let front : All P earlier = all_map _ P earlier (λ e n. below_onward e.weight w.weight d.weight n b) h.3 in
-      let back : All P later = all_map _ P later (λ e n. below_onward e.weight w.weight d.weight (below_one_way e.weight w.weight n) b) h.4 in
-      (ds, [], refl, subst (All P) (sym h.2) (all_join P earlier (w ∷ later) front (b, back)), tt)
+      let front : AllByRecursion P earlier = all_map _ P earlier (λ e n. below_onward e.weight w.weight d.weight n b) h.3 in
+      let back : AllByRecursion P later = all_map _ P later (λ e n. below_onward e.weight w.weight d.weight (below_one_way e.weight w.weight n) b) h.4 in
+      (ds, [], refl, subst (AllByRecursion P) (sym h.2) (all_join P earlier (w ∷ later) front (b, back)), tt)
 
   -- a cell that holds the winner of some declarations, and then more enter it
   goes_on : (ds es : List (Declaration T)) (w : Declaration T) → Wins ds w → (x : Declaration T) × Wins (ds ++ es) x × (all_entered (holding w) es ≡ holding x)

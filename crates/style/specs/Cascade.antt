@@ -1,6 +1,6 @@
 -- CSS Cascading: which of two declarations wins, and which of many.
 use Rattle.std.specs.Prelude.{◌≡◌, ℕ, ◌-◌, Bool, true, false, cond, ◌&&◌, ◌||◌, List, [], ◌∷◌, ◌++◌, is_some, Some, None, ◌==◌, nat_lt}
-use Rattle.std.specs.List.{AllByRecursion as All}
+use Rattle.std.specs.List.{AllByRecursion}
 use Rattle.style.specs.declared.values.Colour.{Colour}
 use Rattle.style.specs.declared.values.StyleOrigin.{StyleOrigin}
 use Rattle.style.specs.declared.values.StyleOrigin.TheVariants.{None as NoOrigin, Agent, User, Author}
@@ -64,8 +64,8 @@ module _ {T : Type 0} where
   Wins ds d =
       (earlier : List (Declaration T)) × (later : List (Declaration T))
       × (ds ≡ earlier ++ (d ∷ later))
-      × All (λ e. below d.weight e.weight ≡ false) earlier
-      × All (λ e. below e.weight d.weight ≡ true) later
+      × AllByRecursion (λ e. below d.weight e.weight ≡ false) earlier
+      × AllByRecursion (λ e. below e.weight d.weight ≡ true) later
 
   -- a cell without a value
   abbrev pub empty : WithSpec T

@@ -1,6 +1,6 @@
 -- The words of a text, and its first word. Assumes nothing.
 use Rattle.std.proofs.Common.{◌≡◌, ℕ, suc, ◌+◌, ◌<◌, ◌≤◌, Bool, true, false, ◌||◌, List, [], ◌∷◌, ◌++◌, length, get_or, take, drop, Some, None, Decides, Option, sym, refl, ap, ◌∙◌, subst, ⊎_elim, arith}
-use Rattle.std.specs.List.{AllByRecursion as All}
+use Rattle.std.specs.List.{AllByRecursion}
 use Rattle.std.specs.Str.{bytes_eq}
 use Rattle.std.proofs.lemmas.Slice.Eq.{bytes_eq-Decides}
 use Rattle.std.proofs.lemmas.Bool.Decides.{same_from_decides}
@@ -29,7 +29,7 @@ cut_end : (rest : List ℕ) → Ends rest → cut rest ≡ ([], words rest)
 cut_end [] h = refl
 cut_end (b ∷ bs) h = cut_white b bs h ∙ ap {B = List ℕ × List (List ℕ)} (λ ws. ([], ws)) (sym (words_white b bs h))
 
-cut_word : (w rest : List ℕ) → All (λ b. white b ≡ false) w → Ends rest → cut (w ++ rest) ≡ (w, words rest)
+cut_word : (w rest : List ℕ) → AllByRecursion (λ b. white b ≡ false) w → Ends rest → cut (w ++ rest) ≡ (w, words rest)
 cut_word [] rest h e = cut_end rest e
 cut_word (b ∷ w) rest h e = cut_other b (w ++ rest) h.0 ∙ ap {B = List ℕ × List (List ℕ)} (λ p. (b ∷ p.0, p.1)) (cut_word w rest h.1 e)
 
@@ -45,12 +45,12 @@ only _ _ (Splits.collect w rest bs ws h e is s) = ap {B = List (List ℕ)} (λ v
 
 -- what is cut off has no white space, an end follows it, and what is left splits into the other words
 abbrev Cuts : List ℕ → List ℕ × List (List ℕ) → Type 0
-Cuts bs p = (rest : List ℕ) × (bs ≡ p.0 ++ rest) × All (λ b. white b ≡ false) p.0 × Ends rest × Splits rest p.1
+Cuts bs p = (rest : List ℕ) × (bs ≡ p.0 ++ rest) × AllByRecursion (λ b. white b ≡ false) p.0 × Ends rest × Splits rest p.1
 
 from_cut : (bs : List ℕ) (p : List ℕ × List (List ℕ)) → Cuts bs p → Splits bs (led_by p.0 p.1)
 from_cut bs p c = by p.0 c.1 c.2
   where
-    by : (w : List ℕ) → bs ≡ w ++ c.0 → All (λ b. white b ≡ false) w → Splits bs (led_by w p.1)
+    by : (w : List ℕ) → bs ≡ w ++ c.0 → AllByRecursion (λ b. white b ≡ false) w → Splits bs (led_by w p.1)
     by [] e h = subst (λ l. Splits l p.1) (sym e) c.4
     by (b ∷ w) e h = Splits.collect (b ∷ w) c.0 bs p.1 (omega arith, h) c.3 e c.4
 
@@ -103,7 +103,7 @@ collected_left (b ∷ bs) =
     (λ h. ap {B = List ℕ} (λ l. b ∷ l) (collected_left bs) ∙ (λ i. sym (collected_other b bs h) i ++ sym (left_other b bs h) i)) (cases_Bool (white b))
 
 abbrev Others : List ℕ → Type 0
-Others w = All (λ b. white b ≡ false) w
+Others w = AllByRecursion (λ b. white b ≡ false) w
 
 collected_others : (bs : List ℕ) → Others (collected bs)
 collected_others [] = tt

@@ -1,6 +1,6 @@
 -- ASCII white space and the splitting of a text at it, as the Infra standard and HTML have them.
 use Rattle.std.specs.Prelude.{◌≡◌, ℕ, ◌<◌, Bool, true, false, cond, ◌||◌, List, [], ◌∷◌, ◌++◌, length, Some, None, Option, ◌==◌}
-use Rattle.std.specs.List.{AllByRecursion as All}
+use Rattle.std.specs.List.{AllByRecursion}
 use Rattle.std.specs.Str.{bytes_eq}
 
 -- U+0009 TAB, U+000A LF, U+000C FF, U+000D CR or U+0020 SPACE
@@ -11,7 +11,7 @@ ascii_white_space b = b == 0x09 || b == 0x0A || b == 0x0C || b == 0x0D || b == 0
 
 -- a word: bytes, at least one, of which none is ASCII white space
 abbrev pub Word : List ℕ → Type 0
-Word w = (0 < length w) × All (λ b. ascii_white_space b ≡ false) w
+Word w = (0 < length w) × AllByRecursion (λ b. ascii_white_space b ≡ false) w
 
 -- a word ends here: nothing follows, or ASCII white space
 abbrev pub Ends : List ℕ → Type 0
