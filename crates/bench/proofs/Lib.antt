@@ -1,5 +1,4 @@
 pub mod Digits
-pub mod Adding
+pub mod Joining
 pub mod Records
-pub mod Choosing
 pub mod PlainLines

@@ -6,24 +6,12 @@ use Rattle.style.specs.declared.style.ComputedStyle.{ComputedStyle}
 use Rattle.style.specs.declared.values.Colour.{Colour}
 use Rattle.style.specs.declared.values.Place.{Place}
 use Rattle.style.specs.declared.values.Display.{Display}
-use Rattle.style.specs.declared.values.Display.TheVariants.{None as Hidden, Shown}
 use Rattle.style.specs.declared.values.WhiteSpace.{WhiteSpace}
 use Rattle.style.specs.declared.values.WhiteSpace.TheVariants.{Normal, Pre, PreWrap}
-use Rattle.style.specs.declared.values.StyleOrigin.{StyleOrigin}
-use Rattle.style.specs.declared.values.StyleOrigin.TheVariants.{None as NoOrigin, Agent, User, Author}
 use Rattle.style.specs.declared.values.Weight.{Weight}
-use Rattle.style.specs.Cascade.{weight_of}
+use Rattle.style.specs.Cascade.{weight_of, value_of}
+use Rattle.style.specs.Printing.{origin_name, display_name}
 use Rattle.bench.specs.Lines.{hex, hex_or_dash}
-
-abbrev pub origin_name : StyleOrigin → List ℕ
-origin_name NoOrigin = codes "none"
-origin_name Agent = codes "agent"
-origin_name User = codes "user"
-origin_name Author = codes "author"
-
-abbrev pub display_name : Display → List ℕ
-display_name Hidden = codes "none"
-display_name Shown = codes "shown"
 
 -- by the codes of a recording
 abbrev pub white_space_name : WhiteSpace → List ℕ
@@ -54,16 +42,16 @@ text_at sheet p = cond (nat_le (p.start + p.len) (length sheet)) (take p.len (dr
 -- ---- the cells of a style
 
 abbrev pub colour_text : WithSpec Colour → Option (List ℕ)
-colour_text c = option_map (λ v. hex (v.r ∷ v.g ∷ v.b ∷ [])) c.val
+colour_text c = option_map (λ v. hex (v.r ∷ v.g ∷ v.b ∷ [])) (value_of c)
 
 abbrev pub display_text : WithSpec Display → Option (List ℕ)
-display_text c = option_map display_name c.val
+display_text c = option_map display_name (value_of c)
 
 abbrev pub white_space_text : WithSpec WhiteSpace → Option (List ℕ)
-white_space_text c = option_map white_space_name c.val
+white_space_text c = option_map white_space_name (value_of c)
 
 abbrev pub generated_text : (sheet : List ℕ) → WithSpec Place → Option (List ℕ)
-generated_text sheet c = option_map (λ p. hex_or_dash (text_at sheet p)) c.val
+generated_text sheet c = option_map (λ p. hex_or_dash (text_at sheet p)) (value_of c)
 
 pub data Cell : Type 0 where
   cell : (name : List ℕ) → Option (List ℕ) → Weight → Cell

@@ -1,11 +1,10 @@
 -- What the program prints of a page: a line a record, and a last line.
 use Rattle.std.specs.Prelude.{ℕ, ◌+◌, ◌/◌, ◌%◌, cond, List, [], ◌∷◌, ◌++◌, Ok, Err, codes, decimal, Result, nat_lt}
 use Rattle.std.specs.List.{flat_map}
-use Rattle.parts.specs.declared.Namespace.{Namespace}
-use Rattle.parts.specs.declared.Namespace.TheVariants.{Other, Html, Svg}
 use Rattle.parts.specs.declared.Refusal.{Refusal}
 use Rattle.dom.specs.Format.{Entry}
 use Rattle.dom.specs.Format.Entry.{entry}
+use Rattle.parts.specs.Names.{namespace_name}
 use Rattle.parts.specs.Numbers.{number, place}
 use Rattle.dom.specs.Shown.{Shown, body_at}
 use Rattle.dom.specs.Shown.Shown.{document, element, text, comment, doctype, instruction, attribute}
@@ -26,11 +25,6 @@ hex_or_dash [] = codes "-"
 hex_or_dash (b ∷ bs) = hex (b ∷ bs)
 
 -- ---- a record: its kind and its fields
-abbrev pub namespace_name : Namespace → List ℕ
-namespace_name Other = codes "other"
-namespace_name Html = codes "html"
-namespace_name Svg = codes "svg"
-
 abbrev pub described : Shown → List ℕ
 described document = codes "document"
 described (element s n) = codes "element " ++ (namespace_name s ++ (codes " " ++ hex n.bytes))

@@ -1,233 +1,142 @@
 //! The cells of a style, as a text.
-ghost use Rattle.std.specs.Prelude.{◌≡◌, false, ◌||◌, [], ◌++◌, drop, is_some, IfOk, if◌then◌else◌, Some, string_bytes, codes, OnOk};
+ghost use Rattle.std.specs.Prelude.{◌≡◌, ℕ, false, List, map, Some};
 ghost use Rattle.std.specs.Option.{option_map};
-ghost use Rattle.bench.specs.Cells.{origin_name, digit_of, weight_text, display_name, white_space_name, cell_text, text_at, colour_text, display_text, white_space_text, generated_text, cells_text, cells_of};
-ghost use Rattle.bench.specs.Values.{value_text};
+ghost use Rattle.style.specs.Cascade.{weight_of, value_of};
+ghost use Rattle.bench.specs.Cells.{weight_text, text_at, cells_text, cells_of};
+ghost use Rattle.bench.specs.Cells.Cell.{cell};
+ghost use Rattle.bench.specs.declared.cells.Value.{Value};
+ghost use Rattle.bench.specs.Values.{value_text, as_cell};
 
-use crate::hex::{write_hex, write_hex_or_dash};
-use std::alloc::AllocError;
+use crate::hex::{Hex, HexOrDash};
+use std::fmt;
 use style::cell::WithSpec;
 use style::style::ComputedStyle;
-use style::values::{Colour, Display, Place, Specificity, StyleOrigin, Weight, WhiteSpace};
+use style::values::{Colour, Display, Place, Specificity, Weight, WhiteSpace};
 
-fn origin_name(origin: StyleOrigin) -> &'static str
-    ensures { result.now ≡ origin_name origin }
-{
-    match origin {
-        StyleOrigin::None => "none",
-        StyleOrigin::Agent => "agent",
-        StyleOrigin::User => "user",
-        StyleOrigin::Author => "author",
+/// Origin, importance and specificity.
+#[derive(Clone, Copy)]
+struct Weighed(Weight);
+
+impl fmt::Display for Weighed {
+    ghost output = { λ w. Some (weight_text w.0) };
+
+    fn fmt<W: fmt::Write>(&self, f: &mut fmt::Formatter<W>) -> fmt::Result {
+        let Weight {
+            important,
+            origin,
+            specificity,
+        } = self.0;
+        let Specificity {
+            inline,
+            id,
+            class,
+            typ,
+        } = specificity;
+        let important = u8::from(important);
+        let inline = u8::from(inline);
+        write!(f, ":{origin}:{important}:{inline}.{id}.{class}.{typ}")
     }
 }
 
-/// 1 for yes, 0 for no.
-fn digit_of(flag: bool) -> u8
-    ensures { result ≡ digit_of flag }
-{
-    if flag { 1 } else { 0 }
-}
-
-/// Adds origin, importance and specificity.
-fn write_weight(out: &mut String, weight: Weight) -> Result<(), AllocError>
-    ensures { OnOk result (string_bytes out.new ≡ string_bytes out.old ++ weight_text weight) }
-{
-    let origin = origin_name(weight.origin);
-    let important = digit_of(weight.important);
-    let Specificity {
-        inline,
-        id,
-        class,
-        typ,
-    } = weight.specificity;
-    let inline = digit_of(inline);
-    write!(out, ":{origin}:{important}:{inline}.{id}.{class}.{typ}")
-}
-
-/// The value of a cell.
+/// The value of a cell. White space prints as a number.
 #[derive(Clone, Copy)]
-pub(crate) enum Value<'a> {
+enum Value<'a> {
     Colour(Colour),
     Display(Display),
     WhiteSpace(WhiteSpace),
     Text(&'a [u8]),
 }
 
-fn display_name(display: Display) -> &'static str
-    ensures { result.now ≡ display_name display }
-{
-    match display {
-        Display::None => "none",
-        Display::Shown => "shown",
-    }
-}
+impl fmt::Display for Value<'_> {
+    ghost output = { λ v. Some (value_text v) };
 
-fn white_space_name(white_space: WhiteSpace) -> &'static str
-    ensures { result.now ≡ white_space_name white_space }
-{
-    match white_space {
-        WhiteSpace::Normal => "0",
-        WhiteSpace::Pre => "1",
-        WhiteSpace::PreWrap => "2",
-    }
-}
-
-fn write_value(out: &mut String, value: Value<'_>) -> Result<(), AllocError>
-    ensures { OnOk result (string_bytes out.new ≡ string_bytes out.old ++ value_text value.entry) }
-{
-    match value {
-        Value::Colour(c) => write_hex(out, &[c.r, c.g, c.b]),
-        Value::Display(display) => {
-            let name = display_name(display);
-            write!(out, "{name}")
+    fn fmt<W: fmt::Write>(&self, f: &mut fmt::Formatter<W>) -> fmt::Result {
+        match *self {
+            Value::Colour(Colour { r, g, b }) => write!(f, "{}", Hex(&[r, g, b])),
+            Value::Display(display) => write!(f, "{display}"),
+            Value::WhiteSpace(WhiteSpace::Normal) => f.write_str("0"),
+            Value::WhiteSpace(WhiteSpace::Pre) => f.write_str("1"),
+            Value::WhiteSpace(WhiteSpace::PreWrap) => f.write_str("2"),
+            Value::Text(text) => write!(f, "{}", HexOrDash(text)),
         }
-        Value::WhiteSpace(white_space) => {
-            let name = white_space_name(white_space);
-            write!(out, "{name}")
-        }
-        Value::Text(text) => write_hex_or_dash(out, text),
-    }
-}
-
-fn write_comma(out: &mut String, any: bool) -> Result<(), AllocError>
-    ensures { OnOk result (string_bytes out.new ≡ string_bytes out.old ++ (if any then codes "," else [])) }
-{
-    if any { write!(out, ",") } else { Ok(()) }
-}
-
-/// Adds a cell that has a value.
-fn write_filled(
-    out: &mut String,
-    any: bool,
-    name: &str,
-    value: Value<'_>,
-    weight: Weight,
-) -> Result<(), AllocError>
-    ensures { OnOk result (string_bytes out.new ≡ string_bytes out.old ++ cell_text any name.now (Some (value_text value.entry)) weight) }
-{
-    write_comma(out, any)?;
-    write!(out, "{name}=")?;
-    write_value(out, value)?;
-    write_weight(out, weight)
-}
-
-/// Adds the cell, if it has a value, and says whether any has one so far.
-fn write_cell(
-    out: &mut String,
-    any: bool,
-    name: &str,
-    value: Option<Value<'_>>,
-    weight: Weight,
-) -> Result<bool, AllocError>
-    ensures { IfOk result (λ more. (more ≡ (any || is_some (option_map value_text value.entry))) × (string_bytes out.new ≡ string_bytes out.old ++ cell_text any name.now (option_map value_text value.entry) weight)) }
-{
-    match value {
-        Some(value) => {
-            write_filled(out, any, name, value, weight)?;
-            Ok(true)
-        }
-        None => Ok(any),
     }
 }
 
 fn text_at(sheet: &[u8], place: Place) -> &[u8]
     ensures { result.now ≡ text_at sheet.now place }
 {
-    let start = place.start;
-    let Some(end) = start.checked_add(place.len) else {
-        return &[];
-    };
-    if end > sheet.len() {
-        return &[];
-    }
-    &sheet[start..end]
+    place.part(sheet).unwrap_or_default()
 }
 
-fn colour_of(cell: &WithSpec<Colour>) -> Option<Value<'static>>
-    ensures { option_map value_text result ≡ colour_text cell.now }
-{
-    match cell.val() {
-        Some(colour) => Some(Value::Colour(*colour)),
-        None => None,
-    }
+/// A cell by its name.
+#[derive(Clone, Copy)]
+struct Cell<'a> {
+    name: &'a str,
+    value: Option<Value<'a>>,
+    weight: Weight,
 }
 
-fn display_of(cell: &WithSpec<Display>) -> Option<Value<'static>>
-    ensures { option_map value_text result ≡ display_text cell.now }
-{
-    match cell.val() {
-        Some(display) => Some(Value::Display(*display)),
-        None => None,
-    }
-}
-
-fn white_space_of(cell: &WithSpec<WhiteSpace>) -> Option<Value<'static>>
-    ensures { option_map value_text result ≡ white_space_text cell.now }
-{
-    match cell.val() {
-        Some(white_space) => Some(Value::WhiteSpace(*white_space)),
-        None => None,
+impl<'a> Cell<'a> {
+    /// What is printed of a cell of the cascade.
+    fn new<T: Copy, F: FnOnce(T) -> Value<'a>>(
+        name: &'a str,
+        from: &WithSpec<T>,
+        value: F,
+    ) -> Cell<'a>
+        requires { F.IsAlwaysCallable value }
+        ensures { (text : T → List ℕ) → ((v : T) (w : Value) → F.post value v w → value_text w ≡ text v) → as_cell result ≡ cell name.now (option_map text (value_of from.now)) (weight_of from.now) }
+    {
+        let weight = from.weight();
+        let value = match from.val() {
+            Some(won) => Some(value(*won)),
+            None => None,
+        };
+        Cell {
+            name,
+            value,
+            weight,
+        }
     }
 }
 
-fn text_of<'a>(sheet: &'a [u8], cell: &WithSpec<Place>) -> Option<Value<'a>>
-    ensures { option_map value_text result ≡ generated_text sheet.now cell.now }
-{
-    match cell.val() {
-        Some(place) => Some(Value::Text(text_at(sheet, *place))),
-        None => None,
+/// The cells of a style, whose texts stand in the sheet.
+#[derive(Clone, Copy)]
+pub(crate) struct Cells<'a> {
+    pub(crate) style: &'a ComputedStyle,
+    pub(crate) sheet: &'a [u8],
+}
+
+impl<'a> Cells<'a> {
+    fn all(&self) -> [Cell<'a>; 6]
+        ensures { map as_cell result ≡ cells_of self.now.sheet.now self.now.style.now }
+    {
+        let Cells { style, sheet } = *self;
+        let text = |place| Value::Text(text_at(sheet, place));
+        [
+            Cell::new("colour", &style.colour, Value::Colour),
+            Cell::new("bg", &style.bg_colour, Value::Colour),
+            Cell::new("display", &style.display, Value::Display),
+            Cell::new("ws", &style.white_space, Value::WhiteSpace),
+            Cell::new("before", &style.content_before, text),
+            Cell::new("after", &style.content_after, text),
+        ]
     }
 }
 
-fn write_dash(out: &mut String, any: bool) -> Result<(), AllocError>
-    ensures { OnOk result (string_bytes out.new ≡ string_bytes out.old ++ cells_text any []) }
-{
-    if any { Ok(()) } else { write!(out, "-") }
-}
+/// Those that have a value, with commas between them, or a dash if none has one.
+impl fmt::Display for Cells<'_> {
+    ghost output = { λ c. Some (cells_text false (cells_of c.sheet.now c.style.now)) };
 
-/// Adds the cells from the texts on.
-fn write_texts(
-    out: &mut String,
-    any: bool,
-    style: &ComputedStyle,
-    sheet: &[u8],
-) -> Result<(), AllocError>
-    ensures { OnOk result (string_bytes out.new ≡ string_bytes out.old ++ cells_text any (drop 4 (cells_of sheet.now style.now))) }
-{
-    let before = text_of(sheet, &style.content_before);
-    let any = write_cell(out, any, "before", before, style.content_before.weight())?;
-    let after = text_of(sheet, &style.content_after);
-    let any = write_cell(out, any, "after", after, style.content_after.weight())?;
-    write_dash(out, any)
-}
-
-/// Adds the cells from the display on.
-fn write_modes(
-    out: &mut String,
-    any: bool,
-    style: &ComputedStyle,
-    sheet: &[u8],
-) -> Result<(), AllocError>
-    ensures { OnOk result (string_bytes out.new ≡ string_bytes out.old ++ cells_text any (drop 2 (cells_of sheet.now style.now))) }
-{
-    let display = display_of(&style.display);
-    let any = write_cell(out, any, "display", display, style.display.weight())?;
-    let white_space = white_space_of(&style.white_space);
-    let any = write_cell(out, any, "ws", white_space, style.white_space.weight())?;
-    write_texts(out, any, style, sheet)
-}
-
-/// Adds the style's cells, with commas between them, or a dash if none has a value.
-pub(crate) fn write_cells(
-    out: &mut String,
-    style: &ComputedStyle,
-    sheet: &[u8],
-) -> Result<(), AllocError>
-    ensures { OnOk result (string_bytes out.new ≡ string_bytes out.old ++ cells_text false (cells_of sheet.now style.now)) }
-{
-    let colour = colour_of(&style.colour);
-    let any = write_cell(out, false, "colour", colour, style.colour.weight())?;
-    let bg_colour = colour_of(&style.bg_colour);
-    let any = write_cell(out, any, "bg", bg_colour, style.bg_colour.weight())?;
-    write_modes(out, any, style, sheet)
+    fn fmt<W: fmt::Write>(&self, f: &mut fmt::Formatter<W>) -> fmt::Result {
+        let mut any = false;
+        for cell in &self.all() {
+            let Some(value) = cell.value else {
+                continue;
+            };
+            let comma = if any { "," } else { "" };
+            write!(f, "{comma}{}={value}{}", cell.name, Weighed(cell.weight))?;
+            any = true;
+        }
+        if any { Ok(()) } else { f.write_str("-") }
+    }
 }

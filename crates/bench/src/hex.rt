@@ -1,38 +1,36 @@
 //! Bytes in lower-case hexadecimal.
-ghost use Rattle.std.specs.Prelude.{◌≡◌, ◌<◌, ◌++◌, string_bytes, OnOk};
-ghost use Rattle.bench.specs.Lines.{hex_digit, hex, hex_or_dash};
+ghost use Rattle.std.specs.Prelude.{Some};
+ghost use Rattle.bench.specs.Lines.{hex, hex_or_dash};
 
-use std::alloc::AllocError;
+use std::fmt;
 
-fn digit(value: u8) -> char
-    requires { value < 16 }
-    ensures { result ≡ hex_digit value }
-{
-    if value < 10 {
-        char::from(b'0' + value)
-    } else {
-        char::from(b'a' + (value - 10))
+/// Two digits for each byte.
+#[derive(Clone, Copy)]
+pub(crate) struct Hex<'a>(pub(crate) &'a [u8]);
+
+impl fmt::Display for Hex<'_> {
+    ghost output = { λ h. Some (hex h.0.now) };
+
+    fn fmt<W: fmt::Write>(&self, f: &mut fmt::Formatter<W>) -> fmt::Result {
+        for byte in self.0 {
+            let byte = *byte;
+            write!(f, "{byte:02x}")?;
+        }
+        Ok(())
     }
-}
-
-/// Adds two digits for each byte.
-pub(crate) fn write_hex(out: &mut String, bytes: &[u8]) -> Result<(), AllocError>
-    ensures { OnOk result (string_bytes out.new ≡ string_bytes out.old ++ hex bytes.now) }
-{
-    for byte in bytes {
-        let high = digit(*byte / 16);
-        let low = digit(*byte % 16);
-        write!(out, "{high}{low}")?;
-    }
-    Ok(())
 }
 
 /// The same, or a dash where there are no bytes.
-pub(crate) fn write_hex_or_dash(out: &mut String, bytes: &[u8]) -> Result<(), AllocError>
-    ensures { OnOk result (string_bytes out.new ≡ string_bytes out.old ++ hex_or_dash bytes.now) }
-{
-    if bytes.is_empty() {
-        return write!(out, "-");
+#[derive(Clone, Copy)]
+pub(crate) struct HexOrDash<'a>(pub(crate) &'a [u8]);
+
+impl fmt::Display for HexOrDash<'_> {
+    ghost output = { λ h. Some (hex_or_dash h.0.now) };
+
+    fn fmt<W: fmt::Write>(&self, f: &mut fmt::Formatter<W>) -> fmt::Result {
+        if self.0.is_empty() {
+            return f.write_str("-");
+        }
+        write!(f, "{}", Hex(self.0))
     }
-    write_hex(out, bytes)
 }

@@ -1,75 +1,52 @@
 //! The line of a record.
-ghost use Rattle.std.specs.Prelude.{◌≡◌, ◌++◌, string_bytes, codes, OnOk};
+ghost use Rattle.std.specs.Prelude.{Some};
 ghost use Rattle.dom.specs.Shown.{shown};
-ghost use Rattle.bench.specs.Lines.{hex, hex_or_dash, namespace_name, described, line};
+ghost use Rattle.bench.specs.Lines.{described, line};
 
-use crate::hex::{write_hex, write_hex_or_dash};
-use parts::{Found, Namespace, Record};
-use std::alloc::AllocError;
+use crate::hex::{Hex, HexOrDash};
+use parts::{Found, Record};
+use std::fmt;
 
-fn name_of(namespace: Namespace) -> &'static str
-    ensures { result.now ≡ namespace_name namespace }
-{
-    match namespace {
-        Namespace::Other => "other",
-        Namespace::Html => "html",
-        Namespace::Svg => "svg",
+/// A record's kind and its fields.
+#[derive(Clone, Copy)]
+pub(crate) struct Described<'a>(pub(crate) Record<'a>);
+
+impl fmt::Display for Described<'_> {
+    ghost output = { λ d. Some (described (shown d.0)) };
+
+    fn fmt<W: fmt::Write>(&self, f: &mut fmt::Formatter<W>) -> fmt::Result {
+        match self.0 {
+            Record::Document => f.write_str("document"),
+            Record::Element { namespace, name } => {
+                write!(f, "element {namespace} {}", Hex(name.text.as_bytes()))
+            }
+            Record::Text(text) => write!(f, "text {}", HexOrDash(text.text.as_bytes())),
+            Record::Comment => f.write_str("comment"),
+            Record::Doctype => f.write_str("doctype"),
+            Record::ProcessingInstruction => f.write_str("processing_instruction"),
+            Record::Attribute { name, value } => {
+                let name = Hex(name.text.as_bytes());
+                let value = HexOrDash(value.text.as_bytes());
+                write!(f, "attribute {name} {value}")
+            }
+        }
     }
 }
 
-fn write_element(out: &mut String, namespace: Namespace, name: &[u8]) -> Result<(), AllocError>
-    ensures { OnOk result (string_bytes out.new ≡ string_bytes out.old ++ (codes "element " ++ (namespace_name namespace ++ (codes " " ++ hex name.now)))) }
-{
-    let space = name_of(namespace);
-    write!(out, "element {space} ")?;
-    write_hex(out, name)
+/// The line of the record with that number.
+#[derive(Clone, Copy)]
+pub(crate) struct Line<'a> {
+    pub(crate) number: usize,
+    pub(crate) found: Found<'a>,
 }
 
-fn write_text(out: &mut String, text: &[u8]) -> Result<(), AllocError>
-    ensures { OnOk result (string_bytes out.new ≡ string_bytes out.old ++ (codes "text " ++ hex_or_dash text.now)) }
-{
-    write!(out, "text ")?;
-    write_hex_or_dash(out, text)
-}
+impl fmt::Display for Line<'_> {
+    ghost output = { λ l. Some (line l.number l.found.depth (shown l.found.«record»)) };
 
-fn write_attribute(out: &mut String, name: &[u8], value: &[u8]) -> Result<(), AllocError>
-    ensures { OnOk result (string_bytes out.new ≡ string_bytes out.old ++ (codes "attribute " ++ (hex name.now ++ (codes " " ++ hex_or_dash value.now)))) }
-{
-    write!(out, "attribute ")?;
-    write_hex(out, name)?;
-    write!(out, " ")?;
-    write_hex_or_dash(out, value)
-}
-
-/// Adds the record's kind and its fields.
-pub(crate) fn describe(out: &mut String, what: Record<'_>) -> Result<(), AllocError>
-    ensures { OnOk result (string_bytes out.new ≡ string_bytes out.old ++ described (shown what.entry)) }
-{
-    match what {
-        Record::Document => write!(out, "document"),
-        Record::Element { namespace, name } => write_element(out, namespace, name.text.as_bytes()),
-        Record::Text(text) => write_text(out, text.text.as_bytes()),
-        Record::Comment => write!(out, "comment"),
-        Record::Doctype => write!(out, "doctype"),
-        Record::ProcessingInstruction => write!(out, "processing_instruction"),
-        Record::Attribute { name, value } => write_attribute(
-            out,
-            name.text.as_bytes(),
-            value.text.as_bytes(),
-        ),
+    fn fmt<W: fmt::Write>(&self, f: &mut fmt::Formatter<W>) -> fmt::Result {
+        let Line { number, found } = *self;
+        let depth = found.depth;
+        let what = Described(found.record);
+        writeln!(f, "{number} {depth} {what}")
     }
-}
-
-/// Adds the line of the record with that number.
-pub(crate) fn write_line(
-    out: &mut String,
-    number: usize,
-    found: Found<'_>,
-) -> Result<(), AllocError>
-    ensures { OnOk result (string_bytes out.new ≡ string_bytes out.old ++ line number found.entry.depth (shown found.entry.«record»)) }
-{
-    let depth = found.depth;
-    write!(out, "{number} {depth} ")?;
-    describe(out, found.record)?;
-    writeln!(out)
 }

@@ -1,26 +1,25 @@
 //! The listing of a page.
-ghost use Rattle.std.specs.Prelude.{◌≡◌, List, ◌++◌, IfOk, Ok, string_bytes, OnOk};
+ghost use Rattle.std.specs.Prelude.{◌≡◌, List, ◌++◌, IfOk, Ok, string_bytes, OnOk, IsOk};
 ghost use Rattle.dom.specs.Format.{Entry};
-ghost use Rattle.dom.specs.Reading.{entries, counted};
+ghost use Rattle.dom.specs.Reading.{entries};
 ghost use Rattle.bench.specs.Lines.{lines, listed};
 
-use crate::line::write_line;
+use crate::line::Line;
 use page::check::check;
-use page::read::record_at;
+use page::fronts::records;
 use std::alloc::{AllocError, Global};
 
-/// Adds the lines of the records of an accepted page, which are so many.
-fn write_records(out: &mut String, page: &[u8], count: usize) -> Result<(), AllocError>
-    requires { Ok count ≡ counted 0 (entries page.now) }
+/// Adds the lines of the records of an accepted page.
+fn write_records(out: &mut String, page: &[u8]) -> Result<(), AllocError>
+    requires { IsOk (entries page.now) }
     ensures { OnOk result ((es : List Entry) → entries page.now ≡ Ok es → string_bytes out.new ≡ string_bytes out.old ++ lines 0 es) }
 {
-    let mut place = 0;
-    for number in 0..count {
-        let Ok(found) = record_at(page, place) else {
-            unreachable()
+    for front in records(page) {
+        let number = front.spot.number;
+        let Ok(found) = front.read() else {
+            unreachable!()
         };
-        write_line(out, number, found)?;
-        place = found.next;
+        write!(out, "{}", Line { number, found })?;
     }
     Ok(())
 }
@@ -31,8 +30,8 @@ pub(crate) fn listing(heap: Global, page: &[u8]) -> Result<String, AllocError>
 {
     let mut out = String::new(heap);
     match check(page) {
-        Ok(count) => {
-            write_records(&mut out, page, count)?;
+        Ok(_) => {
+            write_records(&mut out, page)?;
             writeln!(out, "end 0")?;
         }
         Err(refusal) => {

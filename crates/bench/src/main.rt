@@ -17,10 +17,7 @@ mod words;
 const USAGE: &str = "usage: bench [--records] [FILE]";
 
 fn read_page(rt: &HostRuntime, file: &str) -> anyhow::Result<Vec<u8>> {
-    match fs::read(rt, file) {
-        Ok(page) => Ok(page),
-        Err(error) => Err(anyhow!(format!(in rt.alloc(); "cannot read {file}: {error}")?)),
-    }
+    fs::read(rt, file).map_err(|error| anyhow!("cannot read {file}: {error}"))
 }
 
 fn run(rt: &HostRuntime) -> anyhow::Result<()> {

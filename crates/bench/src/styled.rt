@@ -1,53 +1,65 @@
 //! The listing of a page with styles.
-ghost use Rattle.std.specs.Prelude.{◌≡◌, ℕ, List, ◌++◌, Ok, string_bytes, OnOk};
-ghost use Rattle.dom.specs.Format.{Entry};
-ghost use Rattle.dom.specs.Reading.{entries, counted};
+ghost use Rattle.std.specs.Prelude.{◌≡◌, ℕ, List, ◌++◌, Some, string_bytes, OnOk};
 ghost use Rattle.dom.specs.Shown.{shown};
-ghost use Rattle.bench.specs.Styled.{styled_line, Printed, AllPrinted, StylesListed};
+ghost use Rattle.bench.specs.Styled.{styled_line, Printed};
 
-use crate::cells::write_cells;
-use crate::line::{describe, write_line};
-use page::check::check;
-use page::read::record_at;
-use parts::{Found, Record, Spot};
-use std::alloc::{AllocError, Global};
+use crate::cells::Cells;
+use crate::line::{Described, Line};
+use page::node::Node;
+use parts::{Found, Record};
+use std::alloc::AllocError;
+use std::fmt;
 use style::source::StyleSource;
 use style::style::ComputedStyle;
 
-/// Adds the line of an element with its style.
-fn write_styled_line(
-    out: &mut String,
+/// The line of an element with its style.
+#[derive(Clone, Copy)]
+struct StyledLine<'a> {
     number: usize,
-    found: Found<'_>,
-    style: &ComputedStyle,
-    sheet: &[u8],
-) -> Result<(), AllocError>
-    ensures { OnOk result (string_bytes out.new ≡ string_bytes out.old ++ styled_line sheet.now number found.entry.depth (shown found.entry.«record») style.now) }
-{
-    let depth = found.depth;
-    write!(out, "{number} {depth} ")?;
-    describe(out, found.record)?;
-    write!(out, " style=")?;
-    write_cells(out, style, sheet)?;
-    writeln!(out)
+    found: Found<'a>,
+    cells: Cells<'a>,
 }
 
-/// Adds the line of the record at that spot, an element's with the source's answer.
-fn write_record<S: StyleSource>(
+impl fmt::Display for StyledLine<'_> {
+    ghost output = { λ l. Some (styled_line l.cells.sheet.now l.number l.found.depth (shown l.found.«record») l.cells.style.now) };
+
+    fn fmt<W: fmt::Write>(&self, f: &mut fmt::Formatter<W>) -> fmt::Result {
+        let StyledLine {
+            number,
+            found,
+            cells,
+        } = *self;
+        let depth = found.depth;
+        let what = Described(found.record);
+        writeln!(f, "{number} {depth} {what} style={cells}")
+    }
+}
+
+/// Adds the line of the record, an element's with the source's answer.
+fn write_record<'a, S: StyleSource>(
     out: &mut String,
-    page: &[u8],
     source: &S,
-    sheet: &[u8],
-    spot: Spot,
-    found: Found<'_>,
+    sheet: &'a [u8],
+    node: Node<'a>,
+    found: Found<'a>,
 ) -> Result<(), AllocError>
-    ensures { OnOk result ((here : List ℕ) × (string_bytes out.new ≡ string_bytes out.old ++ here) × Printed page.now (S.StyleSource.meaning source.now) sheet.now spot found.entry.depth (shown found.entry.«record») here) }
+    ensures { OnOk result ((here : List ℕ) × (string_bytes out.new ≡ string_bytes out.old ++ here) × Printed node.entry.page.now (S.StyleSource.meaning source.now) sheet.now node.entry.spot found.entry.depth (shown found.entry.«record») here) }
 {
+    let number = node.spot.number;
     match found.record {
         Record::Element { .. } => {
-            let style = source.style(ComputedStyle::new(), page, spot);
-            write_styled_line(out, spot.number, found, &style, sheet)
+            let style = source.style(ComputedStyle::new(), node);
+            let cells = Cells {
+                style: &style,
+                sheet,
+            };
+            let line = StyledLine {
+                number,
+                found,
+                cells,
+            };
+            write!(out, "{line}")
         }
-        _ => write_line(out, spot.number, found),
+        _ => write!(out, "{}", Line { number, found }),
     }
 }

@@ -6,7 +6,8 @@ use Rattle.std.proofs.lemmas.Bool.Decides.{nat_tests}
 use Rattle.parts.specs.declared.Refusal.{Refusal}
 use Rattle.parts.specs.declared.Spot.{Spot}
 use Rattle.parts.specs.declared.Namespace.{Namespace}
-use Rattle.dom.specs.Format.{Leaf, Body, Entry, kind, leaf_kind, kind_number, encoded, encodings, sound, order, kind_fits, depth_fits, fits, orderly, well_formed}
+use Rattle.parts.specs.Codes.{kind_number}
+use Rattle.dom.specs.Format.{Leaf, Body, Entry, kind, leaf_kind, encoded, encodings, sound, order, kind_fits, depth_fits, fits, orderly, well_formed}
 use Rattle.dom.specs.Format.Leaf.{text, comment, doctype, instruction}
 use Rattle.dom.specs.Format.Entry.{entry}
 use Rattle.dom.specs.Reading.{whole, le2_at, le4_at, entry_front, entry_at, next_place}
@@ -21,10 +22,10 @@ use Rattle.dom.proofs.Whole.{Kept, seen_above, no_attributes, Headed, heads}
 use Rattle.dom.proofs.Asked.{node_here, node_passed, attribute_step}
 
 -- numbers of a page do not reach the largest
-abbrev Small : ℕ → List Entry → Type 0
+abbrev pub Small : ℕ → List Entry → Type 0
 Small i es = i + length es < 2 ^ 64 - 1
 
-next_is : (i : ℕ) → i < 2 ^ 64 - 1 → next_number i ≡ suc i
+pub next_is : (i : ℕ) → i < 2 ^ 64 - 1 → next_number i ≡ suc i
 next_is i h = omega arith
 
 eqb_swap : (a b : ℕ) → eqb a b ≡ eqb b a
@@ -32,10 +33,10 @@ eqb_swap a b = grind (arith, nat_tests)
 
 -- ---- one record, and then the others
 module _ (d : ℕ) (b : Body) (es : List Entry) where
-  abbrev bytes : List ℕ
+  abbrev pub bytes : List ℕ
   bytes = written d b (encodings es)
 
-  size_is : le4_at bytes 0 + 4 ≡ span (entry d b)
+  pub size_is : le4_at bytes 0 + 4 ≡ span (entry d b)
   size_is = omega (arith, long_is d b (encodings es))
 
   goes_on : (i at depth : ℕ) → i < 2 ^ 64 - 1 → passed bytes depth ≡ true → node_from 0 i at bytes depth ≡ node_from 0 (suc i) (at + span (entry d b)) (encodings es) depth
@@ -103,11 +104,11 @@ none_deeper i at depth a m (entry d (Body.attribute n v) ∷ es) k l = none_deep
 -- ---- where a node of the tree stands in the page
 
 -- names, texts and values are sound
-abbrev Sounds : List Entry → Type 0
+abbrev pub Sounds : List Entry → Type 0
 Sounds [] = Unit {0}
 Sounds (entry d b ∷ es) = (sound b ≡ true) × Sounds es
 
-sounds : (before es : List Entry) → orderly before es ≡ true → Sounds es
+pub sounds : (before es : List Entry) → orderly before es ≡ true → Sounds es
 sounds before [] h = tt
 sounds before (entry d b ∷ es) h =
     let p = and_parts (fits before (entry d b)) (orderly (entry d b ∷ before) es) h in
@@ -195,7 +196,7 @@ in_at page (behind r) (a_leaf i at d t p es c k) =
     in_at page r (first_at page (suc i) (at + span (entry d (Body.leaf t p))) d false d es (cut_on page i at d (Body.leaf t p) es c) k)
 
 -- ---- the page as a whole
-formed : (es : List Entry) → well_formed es ≡ true → (orderly [] es ≡ true) × (length es ≤ 4096)
+pub formed : (es : List Entry) → well_formed es ≡ true → (orderly [] es ≡ true) × (length es ≤ 4096)
 formed es h =
     let p = and_parts (orderly [] es && leb 1 (length es) && leb (length es) 4096) (leb (length (encodings es)) 65536) h in
     let q = and_parts (orderly [] es && leb 1 (length es)) (leb (length es) 4096) p.0 in

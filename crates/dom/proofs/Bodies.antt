@@ -10,10 +10,12 @@ use Rattle.parts.specs.declared.Kind.{Kind}
 use Rattle.parts.specs.declared.Kind.TheVariants.{Document, Element, Text, Comment, Doctype, ProcessingInstruction, Attribute}
 use Rattle.parts.specs.declared.Refusal.{Refusal}
 use Rattle.parts.specs.declared.Refusal.TheVariants.{Name as WrongName, Text as WrongText}
-use Rattle.dom.specs.Format.{Body, kind, payload, sound, namespace_number, kind_number}
+use Rattle.parts.specs.Codes.{namespace_number, kind_number}
+use Rattle.dom.specs.Format.{Body, kind, payload, sound}
 use Rattle.dom.specs.Format.Leaf.{text, comment, doctype, instruction}
 use Rattle.dom.specs.Format.Body.{document, element, leaf, attribute}
-use Rattle.dom.specs.Reading.{namespace_of, named, name_space, name_in, value_in, has_name, body_of, kind_of}
+use Rattle.parts.specs.Codes.{namespace_of, kind_of}
+use Rattle.dom.specs.Reading.{named, name_space, name_in, value_in, has_name, body_of}
 use Rattle.dom.proofs.Stepping.{never, chosen}
 
 -- ---- numbers of kinds and namespaces

@@ -5,4 +5,5 @@ pub mod Records
 pub mod Whole
 pub mod Places
 pub mod Asked
+pub mod Fronts
 pub mod Answering

@@ -1,7 +1,8 @@
 -- Every part of a page's tree stands in the page at its place. Assumes nothing.
 use Rattle.std.proofs.Common.{◌≡◌, ℕ, suc, ◌+◌, Bool, true, false, cond, eqb, ltb, List, [], ◌∷◌, ◌++◌, length, take, drop, sym, refl, ap, ◌∙◌, append_assoc, append-nil, arith, length-append}
 use lib.Seq.{take-append_seam, drop-append_seam}
-use Rattle.dom.specs.Format.{Body, Entry, payload, kind, kind_number, namespace_number, le2, le4, encoded, encodings}
+use Rattle.parts.specs.Codes.{kind_number, namespace_number}
+use Rattle.dom.specs.Format.{Body, Entry, payload, kind, le2, le4, encoded, encodings}
 use Rattle.dom.specs.Format.Entry.{entry}
 use Rattle.dom.specs.Shown.{part}
 use Rattle.dom.specs.Dom.{Dom, span, leading, seen_from, siblings, Stands, AttributesStand, NodesStand, PartsStand}

@@ -5,10 +5,12 @@ use Rattle.std.proofs.lemmas.Bool.{le-leb, leb-true, lt-leb, leb-false, ltb-fals
 use Rattle.parts.specs.declared.Kind.{Kind}
 use Rattle.parts.specs.declared.Refusal.{Refusal}
 use Rattle.parts.specs.declared.Refusal.TheVariants.{Long, Cut, Kind as WrongKind, Depth as WrongDepth}
-use Rattle.dom.specs.declared.steps.Order.{Order}
-use Rattle.dom.specs.Format.{Body, Entry, kind, payload, encoded, encodings, le2, le4, kind_number, kind_fits, depth_fits, order, fits, orderly, sound}
+use Rattle.dom.specs.declared.order.Order.{Order}
+use Rattle.parts.specs.Codes.{kind_number}
+use Rattle.dom.specs.Format.{Body, Entry, kind, payload, encoded, encodings, le2, le4, kind_fits, depth_fits, order, fits, orderly, sound}
 use Rattle.dom.specs.Format.Entry.{entry}
-use Rattle.dom.specs.Reading.{whole, le2_at, le4_at, payload_of, kind_of, of_kind, tested, with_depth, body_of, first_entry, entry_front, read_as, followed, and_then, entries_from, entries, counted}
+use Rattle.parts.specs.Codes.{kind_of}
+use Rattle.dom.specs.Reading.{whole, le2_at, le4_at, payload_of, of_kind, tested, with_depth, body_of, first_entry, entry_front, read_as, followed, and_then, entries_from, entries, counted}
 use Rattle.dom.specs.Laws.{Holds, Accepts, HeldOnce}
 use Rattle.dom.proofs.Stepping.{never, body_kind, tested_both, first_whole, whole_size}
 use Rattle.dom.proofs.Going.{first_is_whole, entries_first, from_start}
@@ -272,7 +274,3 @@ Answer page r = record { answer : r ≡ counted 0 (entries page); accepts : Acce
 
 pub answered : (page : List ℕ) → Octets page → (r : Result ℕ Refusal) → r ≡ counted 0 (entries page) → Answer page r
 answered page oc r e = record { answer = e; accepts = subst (Accepts page) (sym e) (accepts page oc) }
-
--- where the answer is a refusal, whatever the numbers of the page
-pub answered_no : (page : List ℕ) (r : Refusal) → Err r ≡ counted 0 (entries page) → Answer page (Err r)
-answered_no page r e = record { answer = e; accepts = λ es h. never (e ∙ ap (counted 0) (held_entries page es h)) }

@@ -1,17 +1,18 @@
 -- What the tests of one record come to. Assumes nothing.
-use Rattle.std.proofs.Common.{◌≡◌, ℕ, ◌+◌, ◌-◌, ◌≤◌, Bool, true, false, cond, ◌&&◌, leb, List, length, take, drop, Some, None, Ok, Err, Option, Result, sym, refl, ap, arith}
-use Rattle.std.proofs.lemmas.Bool.{le-leb, and_parts, leb-true}
+use Rattle.std.proofs.Common.{◌≡◌, ℕ, ◌+◌, ◌-◌, ◌<◌, ◌≤◌, Bool, true, false, cond, ◌&&◌, leb, List, length, take, drop, Some, None, Ok, Err, Option, Result, sym, refl, ap, ◌∙◌, arith}
+use Rattle.std.proofs.lemmas.Bool.{le-leb, lt-leb, and_parts, leb-true}
 use Rattle.text.specs.Rfc3629.{octets}
 use Rattle.parts.specs.declared.Namespace.{Namespace}
 use Rattle.parts.specs.declared.Kind.{Kind}
 use Rattle.parts.specs.declared.Kind.TheVariants.{Document, Element, Text, Comment, Doctype, ProcessingInstruction, Attribute}
 use Rattle.parts.specs.declared.Refusal.{Refusal}
 use Rattle.parts.specs.declared.Refusal.TheVariants.{Kind as WrongKind, Depth as WrongDepth, Name as WrongName, Text as WrongText, Cut, Many}
-use Rattle.dom.specs.declared.steps.Order.{Order}
+use Rattle.dom.specs.declared.order.Order.{Order}
 use Rattle.dom.specs.declared.steps.Frame.{Frame}
 use Rattle.dom.specs.Format.{Leaf, Body, kind, kind_fits, depth_fits}
 use Rattle.dom.specs.Format.Entry.{entry}
-use Rattle.dom.specs.Reading.{tested, with_depth, body_of, named, name_space, name_in, value_in, has_name, first_entry, entry_front, read_as, whole, of_kind, kind_of, frame_of, le2_at, le4_at, payload_of}
+use Rattle.parts.specs.Codes.{kind_of}
+use Rattle.dom.specs.Reading.{tested, with_depth, body_of, named, name_space, name_in, value_in, has_name, first_entry, entry_front, read_as, whole, of_kind, frame_of, le2_at, le4_at, payload_of}
 use Rattle.dom.specs.Shown.{Shown, Seen, body_at, shown_at, seen_at}
 
 -- ---- the tests
@@ -44,7 +45,7 @@ module _ (o : Order) (number at : ℕ) (bs : List ℕ) where
 -- ---- the frame
 module _ (bs : List ℕ) where
   abbrev framed : Frame
-  framed = record { kind = le2_at bs 4; depth = le2_at bs 6; size = le4_at bs 0 + 4 }
+  framed = record { kind = kind_of (le2_at bs 4); depth = le2_at bs 6; size = le4_at bs 0 + 4 }
 
   pub frame_cut : None ≡ frame_of bs → whole bs ≡ false
   frame_cut = by (whole bs)
@@ -76,17 +77,21 @@ frame_size bs f h =
     let e = ap (λ x. x.size) w.1 in
     (e, omega arith, omega arith)
 
-pub first_framed : (o : Order) (number at : ℕ) (bs : List ℕ) (f : Frame) → leb 4096 number ≡ false → Some f ≡ frame_of bs → first_entry o number at bs ≡ of_kind o at f.depth (take (f.size - 8) (drop 8 bs)) (kind_of f.kind)
+pub first_framed : (o : Order) (number at : ℕ) (bs : List ℕ) (f : Frame) → leb 4096 number ≡ false → Some f ≡ frame_of bs → first_entry o number at bs ≡ of_kind o at f.depth (take (f.size - 8) (drop 8 bs)) f.kind
 first_framed o number at bs f l h =
     let w = frame_whole bs f h in
     let e : le4_at bs 0 + 4 - 8 ≡ le4_at bs 0 - 4 = omega arith in
     rw (w.1, e) (first_whole o number at bs l w.0)
 
+-- a record whose frame is whole and whose kind is known
+pub first_known : (o : Order) (number at : ℕ) (bs : List ℕ) (f : Frame) (k : Kind) → number < 4096 → Some f ≡ frame_of bs → Some k ≡ f.kind → first_entry o number at bs ≡ tested o at f.depth (take (f.size - 8) (drop 8 bs)) k
+first_known o number at bs f k few h known = first_framed o number at bs f (lt-leb 4096 number few) h ∙ ap (of_kind o at f.depth (take (f.size - 8) (drop 8 bs))) (sym known)
+
 pub front_cut : (at : ℕ) (bs : List ℕ) → whole bs ≡ false → entry_front at bs ≡ Err (Cut at)
 unfolding entry_front
 front_cut at bs f = rw f
 
-pub front_framed : (at : ℕ) (bs : List ℕ) (f : Frame) → Some f ≡ frame_of bs → entry_front at bs ≡ read_as at f.depth (take (f.size - 8) (drop 8 bs)) (kind_of f.kind)
+pub front_framed : (at : ℕ) (bs : List ℕ) (f : Frame) → Some f ≡ frame_of bs → entry_front at bs ≡ read_as at f.depth (take (f.size - 8) (drop 8 bs)) f.kind
 unfolding entry_front
 front_framed at bs f h =
     let w = frame_whole bs f h in

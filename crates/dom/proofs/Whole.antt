@@ -2,7 +2,8 @@
 use Rattle.std.proofs.Common.{◌≡◌, ℕ, zero, suc, ◌+◌, ◌<◌, ◌≤◌, Bool, true, false, cond, ◌&&◌, leb, List, [], ◌∷◌, ◌++◌, length, Some, None, sym, refl, ap, ◌∙◌, subst, ⊎_elim, append_assoc, append-nil, arith}
 use mathlib.Core.Bool.{false≢true}
 use Rattle.std.proofs.lemmas.Bool.{and_parts, leb-true, eqb-true, lt-ltb, le-ltb, eq-eqb, ne_eqb, cases_lt}
-use Rattle.dom.specs.Format.{Leaf, Body, Entry, kind, leaf_kind, order, is_first, deepest, attribute_depth, is, kind_fits, depth_fits, node_fits, fits, orderly, sound, encodings, well_formed}
+use Rattle.dom.proofs.Going.{deepest_is, attribute_is}
+use Rattle.dom.specs.Format.{Leaf, Body, Entry, kind, leaf_kind, order, is_start, deepest, attribute_depth, deepest_of, attributes_of, is, kind_fits, depth_fits, node_fits, fits, orderly, sound, encodings, well_formed}
 use Rattle.dom.specs.Format.Leaf.{text, comment, doctype, instruction}
 use Rattle.dom.specs.Format.Entry.{entry}
 use Rattle.dom.specs.Shown.{part}
@@ -25,9 +26,9 @@ parted before d b h =
 
 node_depth : (before : List Entry) (d : ℕ) → node_fits (order before) d ≡ true → (1 ≤ d) × (d ≤ deepest before)
 node_depth before d h =
-    let p = and_parts (leb 1 d && leb d (deepest before)) (leb d 255) h in
-    let q = and_parts (leb 1 d) (leb d (deepest before)) p.0 in
-    (leb-true 1 d q.0, leb-true d (deepest before) q.1)
+    let p = and_parts (leb 1 d && leb d (deepest_of (order before))) (leb d 255) h in
+    let q = and_parts (leb 1 d) (leb d (deepest_of (order before))) p.0 in
+    (leb-true 1 d q.0, subst (λ m. d ≤ m) (deepest_is before) (leb-true d (deepest_of (order before)) q.1))
 
 leaf_fits : (before : List Entry) (k : Leaf) (d : ℕ) → depth_fits (order before) (leaf_kind k) d ≡ true → node_fits (order before) d ≡ true
 leaf_fits before text d h = h
@@ -39,7 +40,7 @@ attribute_fits : (a : Bool) (m d : ℕ) → is (cond a (Some m) None) d ≡ true
 attribute_fits true m d h = (refl, sym (eqb-true m d h))
 attribute_fits false m d h = absurd (false≢true h)
 
-pub kept : (a : Bool) (m : ℕ) (before es : List Entry) → is_first before ≡ false → deepest before ≡ m → attribute_depth before ≡ cond a (Some m) None → orderly before es ≡ true → Kept a m es
+pub kept : (a : Bool) (m : ℕ) (before es : List Entry) → is_start (order before) ≡ false → deepest before ≡ m → attribute_depth before ≡ cond a (Some m) None → orderly before es ≡ true → Kept a m es
 kept a m before [] f e g h = tt
 kept a m before (entry d (Body.document p) ∷ es) f e g h =
     let q = and_parts (fits before (entry d (Body.document p))) (orderly (entry d (Body.document p) ∷ before) es) h in
@@ -58,8 +59,8 @@ kept a m before (entry d (Body.leaf t p) ∷ es) f e g h =
 kept a m before (entry d (Body.attribute n v) ∷ es) f e g h =
     let q = and_parts (fits before (entry d (Body.attribute n v))) (orderly (entry d (Body.attribute n v) ∷ before) es) h in
     let k = parted before d (Body.attribute n v) q.0 in
-    let i = and_parts (is (attribute_depth before) d) (leb d 255) k.1 in
-    let r = attribute_fits a m d (subst (λ o. is o d ≡ true) g i.0) in
+    let i = and_parts (is (attributes_of (order before)) d) (leb d 255) k.1 in
+    let r = attribute_fits a m d (subst (λ o. is o d ≡ true) (attribute_is before ∙ g) i.0) in
     (r.0, r.1, kept true m (entry d (Body.attribute n v) ∷ before) es refl e (ap Some r.1) q.1)
 
 -- ---- a node seen from each depth

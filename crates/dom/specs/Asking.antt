@@ -4,7 +4,6 @@ use Rattle.std.specs.Str.{bytes_eq}
 use Rattle.parts.specs.declared.Spot.{Spot}
 use Rattle.parts.specs.declared.Named.{Named}
 use Rattle.parts.specs.declared.Refusal.{Refusal}
-use Rattle.dom.specs.declared.steps.Past.{Past}
 use Rattle.dom.specs.Format.{Body, Entry}
 use Rattle.dom.specs.Format.Entry.{entry}
 use Rattle.dom.specs.Reading.{whole, le2_at, le4_at, entry_front}
@@ -40,6 +39,10 @@ abbrev pub node_at : List ℕ → Spot → ℕ → Option Spot
 node_at page s depth = node_from 0 s.number s.place (drop s.place page) depth
 
 -- the record after that at the spot, and the depth of that
+pub record Past : Type 0 where
+  pub next : Spot
+  pub depth : ℕ
+
 abbrev pub past_of : List ℕ → Spot → Option Past
 past_of page s =
     let bs = drop s.place page in

@@ -2,10 +2,11 @@
 use Rattle.std.specs.Prelude.{ℕ, suc, ◌+◌, ◌/◌, ◌%◌, Bool, true, false, not, ◌&&◌, List, [], ◌∷◌, ◌++◌, length, Some, None, Option, ◌==◌, nat_le}
 use Rattle.text.specs.Rfc3629.{octets}
 use Rattle.parts.specs.declared.Namespace.{Namespace}
-use Rattle.parts.specs.declared.Namespace.TheVariants.{Other, Html, Svg}
 use Rattle.parts.specs.declared.Kind.{Kind}
 use Rattle.parts.specs.declared.Kind.TheVariants.{Document, Element, Text, Comment, Doctype, ProcessingInstruction, Attribute}
-use Rattle.dom.specs.declared.steps.Order.{Order}
+use Rattle.parts.specs.Codes.{kind_number, namespace_number}
+use Rattle.dom.specs.declared.order.Order.{Order}
+use Rattle.dom.specs.declared.order.Order.TheVariants.{Start, After}
 
 -- ---- records
 
@@ -44,20 +45,6 @@ le2 n = n % 256 ∷ n / 256 ∷ []
 abbrev pub le4 : ℕ → List ℕ
 le4 n = n % 256 ∷ n / 256 % 256 ∷ n / 65536 % 256 ∷ n / 16777216 ∷ []
 
-abbrev pub kind_number : Kind → ℕ
-kind_number Document = 1
-kind_number Element = 2
-kind_number Text = 3
-kind_number Comment = 4
-kind_number Doctype = 5
-kind_number ProcessingInstruction = 6
-kind_number Attribute = 7
-
-abbrev pub namespace_number : Namespace → ℕ
-namespace_number Other = 0
-namespace_number Html = 1
-namespace_number Svg = 2
-
 abbrev pub payload : Body → List ℕ
 payload (document p) = p
 payload (element s n) = namespace_number s ∷ n
@@ -84,10 +71,6 @@ sound (leaf doctype p) = true
 sound (leaf instruction p) = true
 sound (attribute n v) = (nat_le 1 (length n) && nat_le (length n) 255 && octets n) && octets v
 
-abbrev pub is_first : List Entry → Bool
-is_first [] = true
-is_first (e ∷ before) = false
-
 -- how deep a node may lie: one below the node before it if that may have children, else beside it; an attribute is no node
 abbrev pub deepest : List Entry → ℕ
 deepest [] = 0
@@ -110,20 +93,33 @@ is (Some a) d = a == d
 
 -- what the records before say of where the next may stand
 abbrev pub order : List Entry → Order
-order before = record { first = is_first before; deepest = deepest before; attributes = attribute_depth before }
+order [] = Start
+order (e ∷ before) = After (deepest (e ∷ before)) (attribute_depth (e ∷ before))
+
+abbrev pub is_start : Order → Bool
+is_start Start = true
+is_start (After m a) = false
+
+abbrev pub deepest_of : Order → ℕ
+deepest_of Start = 0
+deepest_of (After m a) = m
+
+abbrev pub attributes_of : Order → Option ℕ
+attributes_of Start = None
+attributes_of (After m a) = a
 
 -- the first record is the only Document
 abbrev pub kind_fits : Order → Kind → Bool
-kind_fits o Document = o.first
-kind_fits o Element = not o.first
-kind_fits o Text = not o.first
-kind_fits o Comment = not o.first
-kind_fits o Doctype = not o.first
-kind_fits o ProcessingInstruction = not o.first
-kind_fits o Attribute = not o.first
+kind_fits o Document = is_start o
+kind_fits o Element = not (is_start o)
+kind_fits o Text = not (is_start o)
+kind_fits o Comment = not (is_start o)
+kind_fits o Doctype = not (is_start o)
+kind_fits o ProcessingInstruction = not (is_start o)
+kind_fits o Attribute = not (is_start o)
 
 abbrev pub node_fits : Order → ℕ → Bool
-node_fits o d = nat_le 1 d && nat_le d o.deepest && nat_le d 255
+node_fits o d = nat_le 1 d && nat_le d (deepest_of o) && nat_le d 255
 
 -- the Document alone lies at depth 0, and nothing deeper than 255
 abbrev pub depth_fits : Order → Kind → ℕ → Bool
@@ -133,7 +129,7 @@ depth_fits o Text d = node_fits o d
 depth_fits o Comment d = node_fits o d
 depth_fits o Doctype d = node_fits o d
 depth_fits o ProcessingInstruction d = node_fits o d
-depth_fits o Attribute d = is o.attributes d && nat_le d 255
+depth_fits o Attribute d = is (attributes_of o) d && nat_le d 255
 
 -- the record may stand after those before it
 abbrev pub fits : List Entry → Entry → Bool

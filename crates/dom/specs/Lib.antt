@@ -4,3 +4,4 @@ pub mod Shown
 pub mod Laws
 pub mod Dom
 pub mod Asking
+pub mod Fronts

@@ -1,19 +1,19 @@
 -- What the bytes of a page say, record after record, and which refusal they get.
-use Rattle.std.specs.Prelude.{ℕ, zero, suc, ◌+◌, ◌-◌, ◌*◌, Bool, false, cond, ◌&&◌, List, [], ◌∷◌, length, take, drop, Some, None, Ok, Err, Option, Result, ◌==◌, nat_le, nat_lt, slice_index}
+use Rattle.std.specs.Prelude.{ℕ, zero, suc, ◌+◌, ◌-◌, ◌*◌, Bool, cond, ◌&&◌, List, [], ◌∷◌, length, take, drop, Some, None, Ok, Err, Option, Result, ◌==◌, nat_le, nat_lt, slice_index}
 use Rattle.parts.specs.declared.Kind.{Kind}
 use Rattle.parts.specs.declared.Kind.TheVariants.{Document, Element, Text, Comment, Doctype, ProcessingInstruction, Attribute}
 use Rattle.parts.specs.declared.Namespace.{Namespace}
-use Rattle.parts.specs.declared.Namespace.TheVariants.{Other, Html, Svg}
 use Rattle.parts.specs.declared.Refusal.{Refusal}
 use Rattle.parts.specs.declared.Refusal.TheVariants.{Long, Cut, Kind as WrongKind, Depth as WrongDepth, Name as WrongName, Text as WrongText, Many}
 use Rattle.text.specs.Rfc3629.{octets}
-use Rattle.dom.specs.Format.{Body, Entry, kind, order, kind_fits, depth_fits}
+use Rattle.parts.specs.Codes.{kind_of, namespace_of}
+use Rattle.dom.specs.Format.{Body, Entry, kind, order, deepest_of, kind_fits, depth_fits}
 use Rattle.dom.specs.Format.Leaf.{text, comment, doctype, instruction}
 use Rattle.dom.specs.Format.Body.{document, element, leaf, attribute}
 use Rattle.dom.specs.Format.Entry.{entry}
 use Rattle.dom.specs.declared.steps.Frame.{Frame}
-use Rattle.dom.specs.declared.steps.Order.{Order}
-use Rattle.dom.specs.declared.steps.Step.{Step}
+use Rattle.dom.specs.declared.order.Order.{Order}
+use Rattle.dom.specs.declared.order.Order.TheVariants.{After}
 
 abbrev pub le2_at : List ℕ → ℕ → ℕ
 le2_at bs k = slice_index bs k + slice_index bs (k + 1) * 256
@@ -26,22 +26,9 @@ abbrev pub whole : List ℕ → Bool
 whole bs = nat_le 4 (length bs) && nat_le 4 (le4_at bs 0) && nat_le (le4_at bs 0) (length bs - 4)
 
 abbrev pub frame_of : List ℕ → Option Frame
-frame_of bs = cond (whole bs) (Some (record { kind = le2_at bs 4; depth = le2_at bs 6; size = le4_at bs 0 + 4 })) None
-
-abbrev pub kind_of : ℕ → Option Kind
-kind_of n =
-    cond (n == 1) (Some Document)
-    (cond (n == 2) (Some Element)
-    (cond (n == 3) (Some Text)
-    (cond (n == 4) (Some Comment)
-    (cond (n == 5) (Some Doctype)
-    (cond (n == 6) (Some ProcessingInstruction)
-    (cond (n == 7) (Some Attribute) None))))))
+frame_of bs = cond (whole bs) (Some (record { kind = kind_of (le2_at bs 4); depth = le2_at bs 6; size = le4_at bs 0 + 4 })) None
 
 -- ---- a record's payload, for the record at that place
-
-abbrev pub namespace_of : ℕ → Option Namespace
-namespace_of n = cond (n == 0) (Some Other) (cond (n == 1) (Some Html) (cond (n == 2) (Some Svg) None))
 
 abbrev pub named : ℕ → Option Namespace → List ℕ → Result Body Refusal
 named at None n = Err (WrongName at)
@@ -149,14 +136,15 @@ counted n (Err r) = Err r
 
 -- the order after one more record
 abbrev pub after : Order → Kind → ℕ → Order
-after o Document d = record { first = false; deepest = suc d; attributes = None }
-after o Element d = record { first = false; deepest = suc d; attributes = Some (suc d) }
-after o Text d = record { first = false; deepest = d; attributes = None }
-after o Comment d = record { first = false; deepest = d; attributes = None }
-after o Doctype d = record { first = false; deepest = d; attributes = None }
-after o ProcessingInstruction d = record { first = false; deepest = d; attributes = None }
-after o Attribute d = record { first = false; deepest = o.deepest; attributes = Some d }
+after o Document d = After (suc d) None
+after o Element d = After (suc d) (Some (suc d))
+after o Text d = After d None
+after o Comment d = After d None
+after o Doctype d = After d None
+after o ProcessingInstruction d = After d None
+after o Attribute d = After (deepest_of o) (Some d)
 
-abbrev pub stepped : Order → (size : ℕ) → Result Entry Refusal → Result Step Refusal
-stepped o size (Ok (entry d b)) = Ok (record { order = after o (kind b) d; size = size })
-stepped o size (Err r) = Err r
+-- the order after a record that was tested, if it may stand there
+abbrev pub onward : Order → Result Entry Refusal → Result Order Refusal
+onward o (Ok (entry d b)) = Ok (after o (kind b) d)
+onward o (Err r) = Err r

@@ -3,29 +3,23 @@ ghost use Rattle.dom.specs.Dom.{TreeIsWhole, PartsStand};
 ghost use Rattle.dom.specs.Laws.{HeldOnce, NoBytesAreCut};
 
 /// No page holds two lists of records.
-pub fn held_once() -> bool
+#[tactic(auto, using(crate::proofs::Records::held_once))]
+pub fn held_once()
     ensures { HeldOnce }
-{
-    true
-}
+{}
 
 /// The tree of a page holds all its records in order, with their depths, numbers and places.
-pub fn tree_is_whole() -> bool
+#[tactic(auto, using(crate::proofs::Whole::tree_is_whole))]
+pub fn tree_is_whole()
     ensures { TreeIsWhole }
-{
-    true
-}
+{}
 
 /// Every name, value, text and payload of the tree stands in the page at its place.
-pub fn parts_stand() -> bool
+pub fn parts_stand()
     ensures { PartsStand }
-{
-    true
-}
+{}
 
 /// A page of no bytes is refused as cut, at place 0.
-pub fn no_bytes_are_cut() -> bool
+pub fn no_bytes_are_cut()
     ensures { NoBytesAreCut }
-{
-    true
-}
+{}

@@ -1,147 +1,118 @@
-//! What is asked of an accepted page: children, siblings and attributes, by number and place.
-//! Each answer looks only at the records from the place asked about to the place answered.
-ghost use Rattle.std.specs.Prelude.{◌≡◌, ◌≤◌, ◌||◌, drop, if◌then◌else◌, Some, None, ◌==◌, nat_eq, nat_lt};
-ghost use Rattle.dom.specs.Asking.{node_from, node_at, past_of, after_by, related, valued, attribute_of, Answers, AnswersAttribute, AnswersRoot, children, following};
+//! What is asked of an accepted page: children, siblings and attributes of a node.
+//! Each answer looks only at the records from the node to the one that is answered.
+ghost use Rattle.std.specs.Prelude.{◌≡◌, ◌≤◌, ◌||◌, nat_lt, IfSome};
 ghost use Rattle.std.specs.Option.{option_map};
+ghost use Rattle.dom.specs.Asking.{node_at, past_of, after_by, related, valued, attribute_of, Answers, AnswersAttribute, AnswersRoot, children, following};
+ghost use Rattle.page.specs.Said.{fronts_said, is_attribute, past_said};
+ghost use Rattle.dom.specs.Fronts.{named_in};
 
-use crate::frame::read_frame;
-use crate::read::record_at;
-use dom::steps::{Frame, Past};
-use parts::{Named, Record, Spot};
-
-const ATTRIBUTE: u16 = 7;
+use crate::front::Fronts;
+use crate::node::{Node, Past};
+use dom::steps::Frame;
+use parts::{Found, Kind, Named, Record, Spot};
 
 /// The record is an attribute, or lies deeper.
 fn is_passed(frame: Frame, depth: usize) -> bool
-    ensures { result ≡ (frame.kind == 7 || nat_lt depth frame.depth) }
+    ensures { result ≡ (is_attribute frame.kind || nat_lt depth frame.depth) }
 {
-    frame.kind == ATTRIBUTE || depth < frame.depth as usize
+    matches!(frame.kind, Some(Kind::Attribute)) || depth < usize::from(frame.depth)
 }
 
-/// The spot, if its record lies at that depth.
-fn at_depth(frame: Frame, depth: usize, spot: Spot) -> Option<Spot>
-    ensures { result ≡ (if nat_eq frame.depth depth then Some spot else None) }
+/// The first attribute of that name, of those with which the records go on.
+fn first_named<'a>(records: Fronts<'a>, name: &str) -> Option<Named<'a>>
+    ensures { option_map valued result ≡ named_in name.now (fronts_said records.entry) }
 {
-    if frame.depth as usize == depth {
-        Some(spot)
-    } else {
-        None
-    }
-}
-
-/// The first node from the record with that number, at that place, on.
-fn scan(page: &[u8], mut number: usize, mut place: usize, depth: usize) -> Option<Spot>
-    ensures { result ≡ node_from 0 number place (drop place page.now) depth }
-{
-    while place < page.len() {
-        let frame = read_frame(&page[place..])?;
-        if !is_passed(frame, depth) {
-            return at_depth(frame, depth, Spot { number, place });
-        }
-        number = number.saturating_add(1);
-        place += frame.size;
-    }
-    None
-}
-
-/// The first node from that record on that lies at that depth, unless a node less deep comes before it.
-/// Attributes and deeper nodes are passed over.
-pub fn node_from(page: &[u8], from: Spot, depth: usize) -> Option<Spot>
-    ensures { result ≡ node_at page.now from depth }
-{
-    scan(page, from.number, from.place, depth)
-}
-
-/// The record after that at the spot, and the depth of that.
-fn record_after(page: &[u8], spot: Spot) -> Option<Past>
-    ensures { result ≡ past_of page.now spot }
-{
-    let start = spot.place;
-    if start > page.len() {
-        return None;
-    }
-    let frame = read_frame(&page[start..])?;
-    let next = Spot {
-        number: spot.number.saturating_add(1),
-        place: start + frame.size,
-    };
-    Some(Past {
-        next,
-        depth: frame.depth,
-    })
-}
-
-/// The first node that lies so much deeper than the record at that spot, from the next record on.
-fn after_by(more: usize, page: &[u8], spot: Spot) -> Option<Spot>
-    requires { more ≤ 1 }
-    ensures answer { result ≡ after_by more page.now spot }
-    ensures node { Answers (related more) page.now spot result }
-    ensures document { AnswersRoot more page.now spot result }
-{
-    let past = record_after(page, spot)?;
-    node_from(page, past.next, past.depth as usize + more)
-}
-
-/// The first child of the node at that spot.
-pub fn first_child(page: &[u8], node: Spot) -> Option<Spot>
-    ensures answer { result ≡ after_by 1 page.now node }
-    ensures child { Answers children page.now node result }
-    ensures document { AnswersRoot 1 page.now node result }
-{
-    after_by(1, page, node)
-}
-
-/// The next sibling of the node at that spot.
-pub fn next_sibling(page: &[u8], node: Spot) -> Option<Spot>
-    ensures answer { result ≡ after_by 0 page.now node }
-    ensures sibling { Answers following page.now node result }
-{
-    after_by(0, page, node)
-}
-
-/// Where no record stands at the spot.
-fn no_attribute<'a>(page: &'a [u8], element: Spot, name: &str) -> Option<Named<'a>>
-    requires { past_of page.now element ≡ None }
-    ensures answer { option_map valued result ≡ attribute_of page.now element name.now }
-    ensures named { AnswersAttribute page.now element name.now (option_map valued result) }
-{
-    None
-}
-
-/// The first attribute of that name, of those that follow the element's record.
-fn attribute_past<'a>(page: &'a [u8], element: Spot, past: Past, name: &str) -> Option<Named<'a>>
-    requires { past_of page.now element ≡ Some past }
-    ensures answer { option_map valued result ≡ attribute_of page.now element name.now }
-    ensures named { AnswersAttribute page.now element name.now (option_map valued result) }
-{
-    let mut number = past.next.number;
-    let mut place = past.next.place;
-    while place < page.len() {
-        let Ok(found) = record_at(page, place) else {
-            return None;
-        };
-        let Record::Attribute { name: own, value } = found.record else {
+    for front in records {
+        let Ok(
+            Found {
+                record: Record::Attribute { name: own, value },
+                ..
+            },
+        ) = front.read()
+        else {
             return None;
         };
         if own.text == name {
             return Some(Named {
-                spot: Spot { number, place },
+                spot: front.spot,
                 value,
             });
         }
-        number = number.saturating_add(1);
-        place = found.next;
     }
     None
 }
 
-/// The first attribute of that name, of the element at that spot.
-pub fn attribute<'a>(page: &'a [u8], element: Spot, name: &str) -> Option<Named<'a>>
-    ensures answer { option_map valued result ≡ attribute_of page.now element name.now }
-    ensures named { AnswersAttribute page.now element name.now (option_map valued result) }
-{
-    match record_after(page, element) {
-        Some(past) => attribute_past(page, element, past, name),
-        None => no_attribute(page, element, name),
+impl<'a> Node<'a> {
+    /// The first node from this record on that lies at that depth, unless a node less deep comes before it.
+    /// Attributes and deeper nodes are passed over.
+    #[tactic(auto, using(dom::proofs::Fronts::found_from))]
+    pub fn node_from(&self, depth: usize) -> Option<Spot>
+        ensures { result ≡ node_at self.now.page.now self.now.spot depth }
+    {
+        for front in self.records() {
+            let frame = front.frame()?;
+            if !is_passed(frame, depth) {
+                return Some(front.spot).filter(|_| usize::from(frame.depth) == depth);
+            }
+        }
+        None
+    }
+
+    /// The record behind this one, and the depth of this one, if this one is whole.
+    #[tactic(auto, using(dom::proofs::Asked::past_framed, dom::proofs::Asked::past_none))]
+    fn past(&self) -> Option<Past<'a>>
+        ensures past { option_map past_said result ≡ past_of self.now.page.now self.now.spot }
+        ensures page { IfSome result (λ p. p.next.page.now ≡ self.now.page.now) }
+    {
+        let frame = self.front().frame()?;
+        let next = Node {
+            page: self.page,
+            spot: Spot {
+                number: self.spot.number.saturating_add(1),
+                place: self.spot.place + frame.size,
+            },
+        };
+        Some(Past {
+            next,
+            depth: frame.depth,
+        })
+    }
+
+    /// The first node that lies so much deeper than this one, from the next record on.
+    fn after_by(&self, more: usize) -> Option<Spot>
+        requires { more ≤ 1 }
+        ensures answer { result ≡ after_by more self.now.page.now self.now.spot }
+        ensures node { Answers (related more) self.now.page.now self.now.spot result }
+        ensures document { AnswersRoot more self.now.page.now self.now.spot result }
+    {
+        let past = self.past()?;
+        past.next.node_from(usize::from(past.depth) + more)
+    }
+
+    /// The first child.
+    pub fn first_child(&self) -> Option<Spot>
+        ensures answer { result ≡ after_by 1 self.now.page.now self.now.spot }
+        ensures child { Answers children self.now.page.now self.now.spot result }
+        ensures document { AnswersRoot 1 self.now.page.now self.now.spot result }
+    {
+        self.after_by(1)
+    }
+
+    /// The next sibling.
+    pub fn next_sibling(&self) -> Option<Spot>
+        ensures answer { result ≡ after_by 0 self.now.page.now self.now.spot }
+        ensures sibling { Answers following self.now.page.now self.now.spot result }
+    {
+        self.after_by(0)
+    }
+
+    /// The first attribute of that name.
+    #[tactic(auto, using(dom::proofs::Fronts::named_past, dom::proofs::Answering::attribute_answers))]
+    pub fn attribute(&self, name: &str) -> Option<Named<'a>>
+        ensures answer { option_map valued result ≡ attribute_of self.now.page.now self.now.spot name.now }
+        ensures named { AnswersAttribute self.now.page.now self.now.spot name.now (option_map valued result) }
+    {
+        let past = self.past()?;
+        first_named(past.next.records(), name)
     }
 }

@@ -1,89 +1,83 @@
 //! What a record's payload says, by its kind.
-ghost use Rattle.std.specs.Prelude.{◌≡◌, ◌+◌, ◌^◌, ◌<◌, ◌≤◌, length};
-ghost use Rattle.dom.specs.Reading.{namespace_of, element_of, text_of, attribute_of, body_of};
+ghost use Rattle.std.specs.Prelude.{◌≡◌};
+ghost use Rattle.dom.specs.Reading.{element_of, text_of, attribute_of, body_of};
 ghost use Rattle.dom.specs.Shown.{told, shown_at};
 
+use crate::front::Payload;
 use parts::{Kind, Namespace, Part, Record, Refusal};
 use text::utf8::from_utf8;
 
-fn namespace_of(number: u8) -> Option<Namespace>
-    ensures { result ≡ namespace_of number }
-{
-    match number {
-        0 => Some(Namespace::Other),
-        1 => Some(Namespace::Html),
-        2 => Some(Namespace::Svg),
-        _ => None,
+impl<'a> Payload<'a> {
+    /// A namespace byte and a name of one byte or more.
+    fn element(&self) -> Result<Record<'a>, Refusal>
+        ensures { told result ≡ shown_at self.now.at (element_of self.now.at self.now.bytes.now) }
+    {
+        let at = self.at;
+        let [namespace, name @ ..] = self.bytes else {
+            return Err(Refusal::Name(at));
+        };
+        if name.is_empty() {
+            return Err(Refusal::Name(at));
+        }
+        let Ok(namespace) = Namespace::try_from(*namespace) else {
+            return Err(Refusal::Name(at));
+        };
+        let text = from_utf8(name).ok_or(Refusal::Name(at))?;
+        Ok(Record::Element {
+            namespace,
+            name: Part {
+                start: at + 9,
+                text,
+            },
+        })
     }
-}
 
-/// A namespace byte and a name of one byte or more.
-fn element(at: usize, payload: &[u8]) -> Result<Record<'_>, Refusal>
-    requires { at + 9 < 2 ^ 64 }
-    ensures { told result ≡ shown_at at (element_of at payload.now) }
-{
-    if payload.len() < 2 {
-        return Err(Refusal::Name(at));
-    }
-    let namespace = namespace_of(payload[0]).ok_or(Refusal::Name(at))?;
-    let text = from_utf8(&payload[1..]).ok_or(Refusal::Name(at))?;
-    Ok(Record::Element {
-        namespace,
-        name: Part {
-            start: at + 9,
+    fn text(&self) -> Result<Record<'a>, Refusal>
+        ensures { told result ≡ shown_at self.now.at (text_of self.now.at self.now.bytes.now) }
+    {
+        let text = from_utf8(self.bytes).ok_or(Refusal::Text(self.at))?;
+        Ok(Record::Text(Part {
+            start: self.at + 8,
             text,
-        },
-    })
-}
-
-fn text(at: usize, payload: &[u8]) -> Result<Record<'_>, Refusal>
-    requires { at + 8 < 2 ^ 64 }
-    ensures { told result ≡ shown_at at (text_of at payload.now) }
-{
-    let text = from_utf8(payload).ok_or(Refusal::Text(at))?;
-    Ok(Record::Text(Part {
-        start: at + 8,
-        text,
-    }))
-}
-
-/// The length of the name, from 1, the name and the value.
-fn attribute(at: usize, payload: &[u8]) -> Result<Record<'_>, Refusal>
-    requires { at + 9 + length payload.now < 2 ^ 64 }
-    ensures { told result ≡ shown_at at (attribute_of at payload.now) }
-{
-    if payload.is_empty() {
-        return Err(Refusal::Name(at));
+        }))
     }
-    let len = payload[0] as usize;
-    if len < 1 || len + 1 > payload.len() {
-        return Err(Refusal::Name(at));
-    }
-    let name = from_utf8(&payload[1..len + 1]).ok_or(Refusal::Name(at))?;
-    let value = from_utf8(&payload[len + 1..]).ok_or(Refusal::Text(at))?;
-    let name = Part {
-        start: at + 9,
-        text: name,
-    };
-    let value = Part {
-        start: at + 9 + len,
-        text: value,
-    };
-    Ok(Record::Attribute { name, value })
-}
 
-/// The record of that kind, at that place, with that payload.
-pub(crate) fn body(at: usize, kind: Kind, payload: &[u8]) -> Result<Record<'_>, Refusal>
-    requires { at + 9 + length payload.now < 2 ^ 64 }
-    ensures { told result ≡ shown_at at (body_of at kind payload.now) }
-{
-    match kind {
-        Kind::Document => Ok(Record::Document),
-        Kind::Element => element(at, payload),
-        Kind::Text => text(at, payload),
-        Kind::Comment => Ok(Record::Comment),
-        Kind::Doctype => Ok(Record::Doctype),
-        Kind::ProcessingInstruction => Ok(Record::ProcessingInstruction),
-        Kind::Attribute => attribute(at, payload),
+    /// The length of the name, from 1, the name and the value.
+    fn attribute(&self) -> Result<Record<'a>, Refusal>
+        ensures { told result ≡ shown_at self.now.at (attribute_of self.now.at self.now.bytes.now) }
+    {
+        let at = self.at;
+        let [len, rest @ ..] = self.bytes else {
+            return Err(Refusal::Name(at));
+        };
+        let len = usize::from(*len);
+        if len < 1 || len > rest.len() {
+            return Err(Refusal::Name(at));
+        }
+        let (name, value) = rest.split_at(len);
+        let name = Part {
+            start: at + 9,
+            text: from_utf8(name).ok_or(Refusal::Name(at))?,
+        };
+        let value = Part {
+            start: at + 9 + len,
+            text: from_utf8(value).ok_or(Refusal::Text(at))?,
+        };
+        Ok(Record::Attribute { name, value })
+    }
+
+    /// The record of that kind.
+    pub(crate) fn body(&self, kind: Kind) -> Result<Record<'a>, Refusal>
+        ensures { told result ≡ shown_at self.now.at (body_of self.now.at kind self.now.bytes.now) }
+    {
+        match kind {
+            Kind::Document => Ok(Record::Document),
+            Kind::Element => self.element(),
+            Kind::Text => self.text(),
+            Kind::Comment => Ok(Record::Comment),
+            Kind::Doctype => Ok(Record::Doctype),
+            Kind::ProcessingInstruction => Ok(Record::ProcessingInstruction),
+            Kind::Attribute => self.attribute(),
+        }
     }
 }

@@ -5,5 +5,7 @@ pub mod ask;
 mod body;
 pub mod check;
 mod frame;
-mod order;
+pub mod front;
+pub mod fronts;
+pub mod node;
 pub mod read;

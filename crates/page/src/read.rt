@@ -1,58 +1,38 @@
-//! One record, read at its place.
-ghost use Rattle.std.specs.Prelude.{◌≡◌, ◌+◌, ◌^◌, ◌<◌, ◌≤◌, length};
-ghost use Rattle.dom.specs.Reading.{entry_front, entry_at, next_place, le4_at};
+//! One record, read where it stands.
+ghost use Rattle.std.specs.Prelude.{◌≡◌, drop};
+ghost use Rattle.dom.specs.Reading.{entry_at, next_place};
 ghost use Rattle.dom.specs.Asking.{ReadsNode};
+ghost use Rattle.dom.specs.Fronts.{fronts_at};
 ghost use Rattle.dom.specs.Shown.{seen, seen_at};
+ghost use Rattle.page.specs.Said.{fronts_said};
 
-use crate::body::body;
-use crate::frame::{kind_of, read_frame};
+use crate::front::{Front, Fronts};
+use crate::node::Node;
 use parts::{Found, Refusal};
 
-/// The record with which the bytes begin, that stand at that place.
-fn read_front(at: usize, bytes: &[u8]) -> Result<Found<'_>, Refusal>
-    requires { at + length bytes.now + 1 < 2 ^ 64 }
-    ensures { seen result ≡ seen_at at (at + (le4_at bytes.now 0 + 4)) (entry_front at bytes.now) }
-{
-    let Some(frame) = read_frame(bytes) else {
-        return Err(Refusal::Cut(at));
-    };
-    let Some(kind) = kind_of(frame.kind) else {
-        return Err(Refusal::Kind(at));
-    };
-    let size = frame.size;
-    let record = body(at, kind, &bytes[8..size])?;
-    Ok(Found {
-        record,
-        depth: frame.depth as usize,
-        next: at + size,
-    })
-}
+impl<'a> Node<'a> {
+    pub(crate) fn front(&self) -> Front<'a>
+        ensures spot { result.spot ≡ self.now.spot }
+        ensures bytes { result.bytes.now ≡ drop self.now.spot.place self.now.page.now }
+    {
+        Front {
+            spot: self.spot,
+            bytes: self.page.get(self.spot.place..).unwrap_or(&[]),
+        }
+    }
 
-/// There is nothing past the page's end.
-fn read_past(page: &[u8], place: usize) -> Result<Found<'_>, Refusal>
-    requires { length page.now ≤ place }
-    ensures answer { seen result ≡ seen_at place (next_place page.now place) (entry_at page.now place) }
-    ensures node { ReadsNode page.now place (seen result) }
-{
-    Err(Refusal::Cut(place))
-}
+    /// The record; what stands before it is not looked at.
+    pub fn record(&self) -> Result<Found<'a>, Refusal>
+        ensures answer { let at = self.now.spot.place in seen result ≡ seen_at at (next_place self.now.page.now at) (entry_at self.now.page.now at) }
+        ensures node { ReadsNode self.now.page.now self.now.spot.place (seen result) }
+    {
+        self.front().read()
+    }
 
-fn read_within(page: &[u8], place: usize) -> Result<Found<'_>, Refusal>
-    requires { place ≤ length page.now }
-    ensures answer { seen result ≡ seen_at place (next_place page.now place) (entry_at page.now place) }
-    ensures node { ReadsNode page.now place (seen result) }
-{
-    read_front(place, &page[place..])
-}
-
-/// The record at that place of the page; what stands before it is not looked at.
-pub fn record_at(page: &[u8], place: usize) -> Result<Found<'_>, Refusal>
-    ensures answer { seen result ≡ seen_at place (next_place page.now place) (entry_at page.now place) }
-    ensures node { ReadsNode page.now place (seen result) }
-{
-    if place < page.len() {
-        read_within(page, place)
-    } else {
-        read_past(page, place)
+    /// The records from this one on.
+    pub fn records(&self) -> Fronts<'a>
+        ensures { fronts_said result ≡ fronts_at self.now.page.now self.now.spot }
+    {
+        Fronts { next: self.front() }
     }
 }

@@ -1,10 +1,12 @@
 //! The parts of a page: records, their places, and refusals.
 #![tactic(auto)]
 
+pub mod codes;
+mod names;
 mod numbers;
 
 /// The namespace of an element.
-#[derive(Clone, Copy)]
+#[derive(Clone, Copy, Debug, PartialEq, Eq)]
 pub enum Namespace {
     Other,
     Html,
@@ -12,7 +14,7 @@ pub enum Namespace {
 }
 
 /// The kind of a record.
-#[derive(Clone, Copy)]
+#[derive(Clone, Copy, Debug, PartialEq, Eq)]
 pub enum Kind {
     Document,
     Element,

@@ -5,6 +5,7 @@ ghost use Rattle.parts.specs.Numbers.{number, place};
 use crate::Refusal;
 
 impl Refusal {
+    /// The number by which formats and programs tell it.
     pub fn number(self) -> u32
         ensures { result ≡ number self }
     {

@@ -5,8 +5,7 @@ use Rattle.dom.specs.Format.{le2, le4}
 use Rattle.parts.specs.Numbers.{number, place}
 use Rattle.replay.specs.declared.case.Piece.{Piece}
 use Rattle.replay.specs.declared.case.Piece.TheVariants.{Record, Raw, Text, Comments, Nest}
-use Rattle.replay.specs.declared.case.Answer.{Answer}
-use Rattle.replay.specs.declared.case.Answer.TheVariants.{Accepted, Refused}
+use Rattle.replay.specs.declared.case.Refused.{Refused}
 
 -- a record of any kind, known or not
 abbrev pub framed : (kind depth : ℕ) → List ℕ → List ℕ
@@ -28,6 +27,10 @@ built (Text n) = framed 3 1 (replicate n 97)
 built (Comments n) = comments n
 built (Nest n) = nest n
 
-abbrev pub answered : Result ℕ Refusal → Answer
-answered (Ok n) = Accepted n
-answered (Err r) = Refused (number r) (place r)
+-- a refusal by its number and its place
+abbrev pub refused : Refusal → Refused
+refused r = record { 0 = number r; 1 = place r }
+
+abbrev pub answered : Result ℕ Refusal → Result ℕ Refused
+answered (Ok n) = Ok n
+answered (Err r) = Err (refused r)

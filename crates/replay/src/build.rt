@@ -1,12 +1,13 @@
 //! Pages from their pieces.
 ghost use Rattle.std.specs.Prelude.{◌≡◌, [], ◌++◌, IfOk, OnOk};
 ghost use Rattle.std.specs.List.{flat_map};
-ghost use Rattle.dom.specs.Format.{Body, kind as kind_told, kind_number, payload as payload_told, encoded};
+ghost use Rattle.parts.specs.Codes.{kind_number};
+ghost use Rattle.dom.specs.Format.{Body, kind as kind_told, payload as payload_told, encoded};
 ghost use Rattle.dom.specs.Format.Entry.{entry as entry_told};
 ghost use Rattle.replay.specs.Built.{framed, comments, nest, built};
 
 use crate::case::Piece;
-use anyhow::anyhow;
+use anyhow::ensure;
 use std::alloc::Global;
 
 const LONGEST: usize = 100_000;
@@ -21,9 +22,7 @@ pub(crate) fn record(
     ensures bytes { OnOk result (page.new.items ≡ page.old.items ++ framed kind depth payload.now) }
     ensures format { OnOk result ((b : Body) → kind_number (kind_told b) ≡ kind → payload_told b ≡ payload.now → page.new.items ≡ page.old.items ++ encoded (entry_told depth b)) }
 {
-    if payload.len() > LONGEST {
-        return Err(anyhow!("a payload is too long"));
-    }
+    ensure!(payload.len() <= LONGEST, "a payload is too long");
     let follows = payload.len() as u32 + 4;
     page.extend_from_slice(&follows.to_le_bytes())?;
     page.extend_from_slice(&kind.to_le_bytes())?;
@@ -50,13 +49,16 @@ fn add_nest(page: &mut Vec<u8>, deepest: u16) -> anyhow::Result<()>
     Ok(())
 }
 
-fn add_piece(heap: Global, page: &mut Vec<u8>, piece: Piece) -> anyhow::Result<()>
+fn add_piece(page: &mut Vec<u8>, piece: Piece) -> anyhow::Result<()>
     ensures { OnOk result (page.new.items ≡ page.old.items ++ built piece) }
 {
     match piece {
         Piece::Record(kind, depth, payload) => record(page, kind, depth, payload)?,
         Piece::Raw(bytes) => page.extend_from_slice(bytes)?,
-        Piece::Text(count) => record(page, 3, 1, vec![in heap; b'a'; count]?.as_slice())?,
+        Piece::Text(count) => {
+            let text = vec![in *page.allocator(); b'a'; count]?;
+            record(page, 3, 1, text.as_slice())?
+        }
         Piece::Comments(count) => add_comments(page, count)?,
         Piece::Nest(deepest) => add_nest(page, deepest)?,
     }
@@ -69,7 +71,7 @@ pub(crate) fn build(heap: Global, pieces: &[Piece]) -> anyhow::Result<Vec<u8>>
 {
     let mut page = Vec::new(heap);
     for piece in pieces {
-        add_piece(heap, &mut page, *piece)?;
+        add_piece(&mut page, *piece)?;
     }
     Ok(page)
 }

@@ -1,8 +1,7 @@
 //! The cases, with their answers worked out by hand.
 //! A Document has 8 bytes, an element `p` or an attribute `a` 10, and a record without payload 8.
-use crate::case::Answer::{Accepted, Refused};
 use crate::case::Piece::{Comments, Nest, Raw, Record, Text};
-use crate::case::{Case, Piece};
+use crate::case::{Case, Piece, Refused};
 
 const DOC: Piece = Record(1, 0, b"");
 
@@ -26,111 +25,134 @@ const TEXT3: Piece = Record(3, 3, b"");
 
 const COMMENT1: Piece = Record(4, 1, b"");
 
+/// How much a page may have.
 const LIMITS: &[Case] = &[
-    Case("no-bytes", &[], Refused(2, 0)),
-    Case("65536-bytes", &[DOC, Text(65520)], Accepted(2)),
-    Case("65537-bytes", &[DOC, Text(65521)], Refused(1, 0)),
-    Case("65537-bytes-cut", &[Raw(b"\0"), Text(65528)], Refused(1, 0)),
-    Case("65536-bytes-cut", &[Raw(b"\0"), Text(65527)], Refused(2, 0)),
-    Case("4096-records", &[DOC, Comments(4095)], Accepted(4096)),
-    Case("4097-records", &[DOC, Comments(4096)], Refused(7, 32768)),
-    Case("depth-255", &[DOC, Nest(255)], Accepted(256)),
-    Case("depth-256", &[DOC, Nest(256)], Refused(4, 2558)),
+    Case("no-bytes", &[], Err(Refused(2, 0))),
+    Case("65536-bytes", &[DOC, Text(65520)], Ok(2)),
+    Case("65537-bytes", &[DOC, Text(65521)], Err(Refused(1, 0))),
+    Case(
+        "65537-bytes-cut",
+        &[Raw(b"\0"), Text(65528)],
+        Err(Refused(1, 0)),
+    ),
+    Case(
+        "65536-bytes-cut",
+        &[Raw(b"\0"), Text(65527)],
+        Err(Refused(2, 0)),
+    ),
+    Case("4096-records", &[DOC, Comments(4095)], Ok(4096)),
+    Case(
+        "4097-records",
+        &[DOC, Comments(4096)],
+        Err(Refused(7, 32768)),
+    ),
+    Case("depth-255", &[DOC, Nest(255)], Ok(256)),
+    Case("depth-256", &[DOC, Nest(256)], Err(Refused(4, 2558))),
     Case(
         "text-at-255",
         &[DOC, Nest(254), Record(3, 255, b"")],
-        Accepted(256),
+        Ok(256),
     ),
     Case(
         "text-at-256",
         &[DOC, Nest(255), Record(3, 256, b"")],
-        Refused(4, 2558),
+        Err(Refused(4, 2558)),
     ),
     Case(
         "attribute-at-255",
         &[DOC, Nest(254), Record(7, 255, b"\x01a")],
-        Accepted(256),
+        Ok(256),
     ),
     Case(
         "attribute-at-256",
         &[DOC, Nest(255), Record(7, 256, b"\x01a")],
-        Refused(4, 2558),
+        Err(Refused(4, 2558)),
     ),
     Case(
         "attribute-beside-255",
         &[DOC, Nest(255), Record(7, 255, b"\x01a")],
-        Refused(4, 2558),
+        Err(Refused(4, 2558)),
     ),
 ];
 
+/// The length field.
 const LENGTHS: &[Case] = &[
-    Case("document-alone", &[DOC], Accepted(1)),
-    Case("length-0", &[Raw(&[0, 0, 0, 0, 1, 0, 0, 0])], Refused(2, 0)),
+    Case("document-alone", &[DOC], Ok(1)),
+    Case(
+        "length-0",
+        &[Raw(&[0, 0, 0, 0, 1, 0, 0, 0])],
+        Err(Refused(2, 0)),
+    ),
     Case(
         "length-3-first",
         &[Raw(&[3, 0, 0, 0, 1, 0, 0])],
-        Refused(2, 0),
+        Err(Refused(2, 0)),
     ),
     Case(
         "length-3",
         &[DOC, Raw(&[3, 0, 0, 0, 4, 0, 1])],
-        Refused(2, 8),
+        Err(Refused(2, 8)),
     ),
-    Case(
-        "length-4",
-        &[DOC, Raw(&[4, 0, 0, 0, 4, 0, 1, 0])],
-        Accepted(2),
-    ),
+    Case("length-4", &[DOC, Raw(&[4, 0, 0, 0, 4, 0, 1, 0])], Ok(2)),
     Case(
         "length-past-end",
         &[DOC, Raw(&[5, 0, 0, 0, 4, 0, 1, 0])],
-        Refused(2, 8),
+        Err(Refused(2, 8)),
     ),
     Case(
         "length-to-end",
         &[DOC, Raw(&[5, 0, 0, 0, 4, 0, 1, 0, 97])],
-        Accepted(2),
+        Ok(2),
     ),
     Case(
         "length-before-end",
         &[DOC, Raw(&[4, 0, 0, 0, 4, 0, 1, 0, 97])],
-        Refused(2, 16),
+        Err(Refused(2, 16)),
     ),
     Case(
         "length-greatest",
         &[DOC, Raw(&[255, 255, 255, 255, 4, 0, 1, 0])],
-        Refused(2, 8),
+        Err(Refused(2, 8)),
     ),
     Case(
         "length-second-byte",
         &[DOC, Raw(&[4, 1, 0, 0, 4, 0, 1, 0])],
-        Refused(2, 8),
+        Err(Refused(2, 8)),
     ),
     Case(
         "length-third-byte",
         &[DOC, Raw(&[4, 0, 1, 0, 4, 0, 1, 0])],
-        Refused(2, 8),
+        Err(Refused(2, 8)),
     ),
     Case(
         "length-fourth-byte",
         &[DOC, Raw(&[4, 0, 0, 1, 4, 0, 1, 0])],
-        Refused(2, 8),
+        Err(Refused(2, 8)),
     ),
-    Case("1-byte-first", &[Raw(&[4])], Refused(2, 0)),
-    Case("1-byte-left", &[DOC, Raw(&[0])], Refused(2, 8)),
-    Case("2-bytes-left", &[DOC, Raw(&[0, 0])], Refused(2, 8)),
-    Case("3-bytes-left", &[DOC, Raw(&[0, 0, 0])], Refused(2, 8)),
-    Case("4-bytes-left", &[DOC, Raw(&[4, 0, 0, 0])], Refused(2, 8)),
+    Case("1-byte-first", &[Raw(&[4])], Err(Refused(2, 0))),
+    Case("1-byte-left", &[DOC, Raw(&[0])], Err(Refused(2, 8))),
+    Case("2-bytes-left", &[DOC, Raw(&[0, 0])], Err(Refused(2, 8))),
+    Case("3-bytes-left", &[DOC, Raw(&[0, 0, 0])], Err(Refused(2, 8))),
+    Case(
+        "4-bytes-left",
+        &[DOC, Raw(&[4, 0, 0, 0])],
+        Err(Refused(2, 8)),
+    ),
     Case(
         "7-bytes-left",
         &[DOC, Raw(&[4, 0, 0, 0, 4, 0, 1])],
-        Refused(2, 8),
+        Err(Refused(2, 8)),
     ),
 ];
 
+/// The kind.
 const KINDS: &[Case] = &[
-    Case("kind-0", &[DOC, Record(0, 1, b"")], Refused(3, 8)),
-    Case("second-document", &[DOC, Record(1, 0, b"")], Refused(3, 8)),
+    Case("kind-0", &[DOC, Record(0, 1, b"")], Err(Refused(3, 8))),
+    Case(
+        "second-document",
+        &[DOC, Record(1, 0, b"")],
+        Err(Refused(3, 8)),
+    ),
     Case(
         "kinds-2-to-6",
         &[
@@ -141,416 +163,416 @@ const KINDS: &[Case] = &[
             Record(5, 1, b""),
             Record(6, 1, b""),
         ],
-        Accepted(6),
+        Ok(6),
     ),
-    Case("kind-7", &[DOC, P1, A2], Accepted(3)),
-    Case("kind-8", &[DOC, Record(8, 1, b"")], Refused(3, 8)),
-    Case("kind-256", &[DOC, Record(256, 1, b"")], Refused(3, 8)),
-    Case("kind-259", &[DOC, Record(259, 1, b"")], Refused(3, 8)),
-    Case("kind-65535", &[DOC, Record(65535, 1, b"")], Refused(3, 8)),
-    Case("kind-0-first", &[Record(0, 0, b"")], Refused(3, 0)),
-    Case("kind-257-first", &[Record(257, 0, b"")], Refused(3, 0)),
-    Case("element-first", &[Record(2, 0, b"\x01p")], Refused(3, 0)),
-    Case("text-first", &[TEXT1], Refused(3, 0)),
-    Case("attribute-first", &[A1], Refused(3, 0)),
+    Case("kind-7", &[DOC, P1, A2], Ok(3)),
+    Case("kind-8", &[DOC, Record(8, 1, b"")], Err(Refused(3, 8))),
+    Case("kind-256", &[DOC, Record(256, 1, b"")], Err(Refused(3, 8))),
+    Case("kind-259", &[DOC, Record(259, 1, b"")], Err(Refused(3, 8))),
+    Case(
+        "kind-65535",
+        &[DOC, Record(65535, 1, b"")],
+        Err(Refused(3, 8)),
+    ),
+    Case("kind-0-first", &[Record(0, 0, b"")], Err(Refused(3, 0))),
+    Case("kind-257-first", &[Record(257, 0, b"")], Err(Refused(3, 0))),
+    Case(
+        "element-first",
+        &[Record(2, 0, b"\x01p")],
+        Err(Refused(3, 0)),
+    ),
+    Case("text-first", &[TEXT1], Err(Refused(3, 0))),
+    Case("attribute-first", &[A1], Err(Refused(3, 0))),
 ];
 
+/// The depth of a node.
 const DEPTHS: &[Case] = &[
-    Case("document-at-1", &[Record(1, 1, b"")], Refused(4, 0)),
-    Case("document-at-256", &[Record(1, 256, b"")], Refused(4, 0)),
+    Case("document-at-1", &[Record(1, 1, b"")], Err(Refused(4, 0))),
+    Case(
+        "document-at-256",
+        &[Record(1, 256, b"")],
+        Err(Refused(4, 0)),
+    ),
     Case(
         "element-at-0",
         &[DOC, Record(2, 0, b"\x01p")],
-        Refused(4, 8),
+        Err(Refused(4, 8)),
     ),
-    Case("text-at-0", &[DOC, P1, Record(3, 0, b"")], Refused(4, 18)),
-    Case("one-deeper", &[DOC, P1, TEXT2], Accepted(3)),
-    Case("two-deeper-than-document", &[DOC, P2], Refused(4, 8)),
-    Case("two-deeper-than-element", &[DOC, P1, TEXT3], Refused(4, 18)),
-    Case("depth-257", &[DOC, Record(3, 257, b"")], Refused(4, 8)),
-    Case("beside-text", &[DOC, TEXT1, TEXT1], Accepted(3)),
-    Case("under-text", &[DOC, TEXT1, TEXT2], Refused(4, 16)),
-    Case("under-comment", &[DOC, COMMENT1, TEXT2], Refused(4, 16)),
+    Case(
+        "text-at-0",
+        &[DOC, P1, Record(3, 0, b"")],
+        Err(Refused(4, 18)),
+    ),
+    Case("one-deeper", &[DOC, P1, TEXT2], Ok(3)),
+    Case("two-deeper-than-document", &[DOC, P2], Err(Refused(4, 8))),
+    Case(
+        "two-deeper-than-element",
+        &[DOC, P1, TEXT3],
+        Err(Refused(4, 18)),
+    ),
+    Case("depth-257", &[DOC, Record(3, 257, b"")], Err(Refused(4, 8))),
+    Case("beside-text", &[DOC, TEXT1, TEXT1], Ok(3)),
+    Case("under-text", &[DOC, TEXT1, TEXT2], Err(Refused(4, 16))),
+    Case(
+        "under-comment",
+        &[DOC, COMMENT1, TEXT2],
+        Err(Refused(4, 16)),
+    ),
     Case(
         "under-doctype",
         &[DOC, Record(5, 1, b""), TEXT2],
-        Refused(4, 16),
+        Err(Refused(4, 16)),
     ),
     Case(
         "under-instruction",
         &[DOC, Record(6, 1, b""), TEXT2],
-        Refused(4, 16),
+        Err(Refused(4, 16)),
     ),
-    Case("back-up", &[DOC, P1, P2, P3, TEXT1], Accepted(5)),
-    Case("back-up-and-down", &[DOC, P1, P2, P3, P1, P2], Accepted(6)),
+    Case("back-up", &[DOC, P1, P2, P3, TEXT1], Ok(5)),
+    Case("back-up-and-down", &[DOC, P1, P2, P3, P1, P2], Ok(6)),
     Case(
         "back-up-and-two-down",
         &[DOC, P1, P2, P3, P1, P3],
-        Refused(4, 48),
+        Err(Refused(4, 48)),
     ),
     Case(
         "back-up-and-under-text",
         &[DOC, P1, P2, P3, TEXT1, TEXT2],
-        Refused(4, 46),
+        Err(Refused(4, 46)),
     ),
 ];
 
+/// Where an attribute may stand.
 const ATTRIBUTES: &[Case] = &[
-    Case("attribute-of-document", &[DOC, A1], Refused(4, 8)),
-    Case("attribute-of-text", &[DOC, TEXT1, A2], Refused(4, 16)),
-    Case("attribute-of-comment", &[DOC, COMMENT1, A2], Refused(4, 16)),
+    Case("attribute-of-document", &[DOC, A1], Err(Refused(4, 8))),
+    Case("attribute-of-text", &[DOC, TEXT1, A2], Err(Refused(4, 16))),
+    Case(
+        "attribute-of-comment",
+        &[DOC, COMMENT1, A2],
+        Err(Refused(4, 16)),
+    ),
     Case(
         "attribute-after-text",
         &[DOC, P1, TEXT2, A2],
-        Refused(4, 26),
+        Err(Refused(4, 26)),
     ),
-    Case("attribute-after-child", &[DOC, P1, P2, A2], Refused(4, 28)),
-    Case("attribute-of-child", &[DOC, P1, P2, A3], Accepted(4)),
-    Case("attribute-after-attribute", &[DOC, P1, A2, A2], Accepted(4)),
+    Case(
+        "attribute-after-child",
+        &[DOC, P1, P2, A2],
+        Err(Refused(4, 28)),
+    ),
+    Case("attribute-of-child", &[DOC, P1, P2, A3], Ok(4)),
+    Case("attribute-after-attribute", &[DOC, P1, A2, A2], Ok(4)),
     Case(
         "attribute-at-0",
         &[DOC, P1, Record(7, 0, b"\x01a")],
-        Refused(4, 18),
+        Err(Refused(4, 18)),
     ),
-    Case("attribute-beside", &[DOC, P1, A1], Refused(4, 18)),
-    Case("attribute-two-deeper", &[DOC, P1, A3], Refused(4, 18)),
-    Case("attribute-of-attribute", &[DOC, P1, A2, A3], Refused(4, 28)),
+    Case("attribute-beside", &[DOC, P1, A1], Err(Refused(4, 18))),
+    Case("attribute-two-deeper", &[DOC, P1, A3], Err(Refused(4, 18))),
     Case(
-        "child-after-attributes",
-        &[DOC, P1, A2, A2, P2],
-        Accepted(5),
+        "attribute-of-attribute",
+        &[DOC, P1, A2, A3],
+        Err(Refused(4, 28)),
     ),
-    Case("text-after-attribute", &[DOC, P1, A2, TEXT2], Accepted(4)),
-    Case("beside-after-attribute", &[DOC, P1, A2, P1], Accepted(4)),
-    Case("under-attribute", &[DOC, P1, A2, P3], Refused(4, 28)),
+    Case("child-after-attributes", &[DOC, P1, A2, A2, P2], Ok(5)),
+    Case("text-after-attribute", &[DOC, P1, A2, TEXT2], Ok(4)),
+    Case("beside-after-attribute", &[DOC, P1, A2, P1], Ok(4)),
+    Case("under-attribute", &[DOC, P1, A2, P3], Err(Refused(4, 28))),
     Case(
         "attribute-after-attribute-and-text",
         &[DOC, P1, A2, TEXT2, A2],
-        Refused(4, 36),
+        Err(Refused(4, 36)),
     ),
 ];
 
+/// Namespaces, names and values.
 const NAMES: &[Case] = &[
     Case(
         "element-no-payload",
         &[DOC, Record(2, 1, b"")],
-        Refused(5, 8),
+        Err(Refused(5, 8)),
     ),
     Case(
         "element-no-name",
         &[DOC, Record(2, 1, b"\x01")],
-        Refused(5, 8),
+        Err(Refused(5, 8)),
     ),
     Case(
         "namespaces-0-to-2",
         &[DOC, Record(2, 1, b"\x00p"), P1, Record(2, 1, b"\x02p")],
-        Accepted(4),
+        Ok(4),
     ),
-    Case("namespace-3", &[DOC, Record(2, 1, b"\x03p")], Refused(5, 8)),
+    Case(
+        "namespace-3",
+        &[DOC, Record(2, 1, b"\x03p")],
+        Err(Refused(5, 8)),
+    ),
     Case(
         "namespace-255",
         &[DOC, Record(2, 1, b"\xffp")],
-        Refused(5, 8),
+        Err(Refused(5, 8)),
     ),
     Case(
         "element-name-two-bytes",
         &[DOC, Record(2, 1, b"\x01\xc3\xa9")],
-        Accepted(2),
+        Ok(2),
     ),
     Case(
         "element-name-not-utf8",
         &[DOC, Record(2, 1, b"\x01\xff")],
-        Refused(5, 8),
+        Err(Refused(5, 8)),
     ),
     Case(
         "element-name-cut",
         &[DOC, Record(2, 1, b"\x01p\xc3")],
-        Refused(5, 8),
+        Err(Refused(5, 8)),
     ),
     Case(
         "attribute-no-payload",
         &[DOC, P1, Record(7, 2, b"")],
-        Refused(5, 18),
+        Err(Refused(5, 18)),
     ),
     Case(
         "attribute-no-name",
         &[DOC, P1, Record(7, 2, b"\0")],
-        Refused(5, 18),
+        Err(Refused(5, 18)),
     ),
     Case(
         "attribute-name-length-0",
         &[DOC, P1, Record(7, 2, b"\0a")],
-        Refused(5, 18),
+        Err(Refused(5, 18)),
     ),
     Case(
         "attribute-name-too-long",
         &[DOC, P1, Record(7, 2, b"\x02a")],
-        Refused(5, 18),
+        Err(Refused(5, 18)),
     ),
     Case(
         "attribute-name-to-end",
         &[DOC, P1, Record(7, 2, b"\x02ab")],
-        Accepted(3),
+        Ok(3),
     ),
     Case(
         "attribute-name-97-bytes",
         &[DOC, P1, Record(7, 2, &[97; 98])],
-        Accepted(3),
+        Ok(3),
     ),
     Case(
         "attribute-name-96-of-97",
         &[DOC, P1, Record(7, 2, &[97; 97])],
-        Refused(5, 18),
+        Err(Refused(5, 18)),
     ),
     Case(
         "attribute-name-not-utf8",
         &[DOC, P1, Record(7, 2, b"\x01\xff")],
-        Refused(5, 18),
+        Err(Refused(5, 18)),
     ),
     Case(
         "attribute-name-cut",
         &[DOC, P1, Record(7, 2, b"\x01\xc3\xa9")],
-        Refused(5, 18),
+        Err(Refused(5, 18)),
     ),
-    Case("attribute-value-empty", &[DOC, P1, A2], Accepted(3)),
+    Case("attribute-value-empty", &[DOC, P1, A2], Ok(3)),
     Case(
         "attribute-value",
         &[DOC, P1, Record(7, 2, b"\x01a\xc3\xa9")],
-        Accepted(3),
+        Ok(3),
     ),
     Case(
         "attribute-value-not-utf8",
         &[DOC, P1, Record(7, 2, b"\x01a\xff")],
-        Refused(6, 18),
+        Err(Refused(6, 18)),
     ),
     Case(
         "attribute-value-cut",
         &[DOC, P1, Record(7, 2, b"\x01ab\xc3")],
-        Refused(6, 18),
+        Err(Refused(6, 18)),
     ),
 ];
 
+/// The edges of UTF-8, and payloads that are not read.
 const TEXTS: &[Case] = &[
-    Case("text-empty", &[DOC, TEXT1], Accepted(2)),
-    Case("text-00", &[DOC, Record(3, 1, b"\0")], Accepted(2)),
-    Case("text-7f", &[DOC, Record(3, 1, b"\x7f")], Accepted(2)),
-    Case("text-80", &[DOC, Record(3, 1, b"\x80")], Refused(6, 8)),
-    Case("text-61-bf", &[DOC, Record(3, 1, b"a\xbf")], Refused(6, 8)),
+    Case("text-empty", &[DOC, TEXT1], Ok(2)),
+    Case("text-00", &[DOC, Record(3, 1, b"\0")], Ok(2)),
+    Case("text-7f", &[DOC, Record(3, 1, b"\x7f")], Ok(2)),
+    Case("text-80", &[DOC, Record(3, 1, b"\x80")], Err(Refused(6, 8))),
+    Case(
+        "text-61-bf",
+        &[DOC, Record(3, 1, b"a\xbf")],
+        Err(Refused(6, 8)),
+    ),
     Case(
         "text-c0-80",
         &[DOC, Record(3, 1, b"\xc0\x80")],
-        Refused(6, 8),
+        Err(Refused(6, 8)),
     ),
     Case(
         "text-c1-bf",
         &[DOC, Record(3, 1, b"\xc1\xbf")],
-        Refused(6, 8),
+        Err(Refused(6, 8)),
     ),
-    Case("text-c2-80", &[DOC, Record(3, 1, b"\xc2\x80")], Accepted(2)),
+    Case("text-c2-80", &[DOC, Record(3, 1, b"\xc2\x80")], Ok(2)),
     Case(
         "text-c2-7f",
         &[DOC, Record(3, 1, b"\xc2\x7f")],
-        Refused(6, 8),
+        Err(Refused(6, 8)),
     ),
     Case(
         "text-c2-c0",
         &[DOC, Record(3, 1, b"\xc2\xc0")],
-        Refused(6, 8),
+        Err(Refused(6, 8)),
     ),
-    Case("text-c3", &[DOC, Record(3, 1, b"\xc3")], Refused(6, 8)),
-    Case("text-df-bf", &[DOC, Record(3, 1, b"\xdf\xbf")], Accepted(2)),
+    Case("text-c3", &[DOC, Record(3, 1, b"\xc3")], Err(Refused(6, 8))),
+    Case("text-df-bf", &[DOC, Record(3, 1, b"\xdf\xbf")], Ok(2)),
     Case(
         "text-e0-9f-bf",
         &[DOC, Record(3, 1, b"\xe0\x9f\xbf")],
-        Refused(6, 8),
+        Err(Refused(6, 8)),
     ),
     Case(
         "text-e0-a0-80",
         &[DOC, Record(3, 1, b"\xe0\xa0\x80")],
-        Accepted(2),
+        Ok(2),
     ),
     Case(
         "text-e2-82",
         &[DOC, Record(3, 1, b"\xe2\x82")],
-        Refused(6, 8),
+        Err(Refused(6, 8)),
     ),
     Case(
         "text-ed-9f-bf",
         &[DOC, Record(3, 1, b"\xed\x9f\xbf")],
-        Accepted(2),
+        Ok(2),
     ),
     Case(
         "text-ed-a0-80",
         &[DOC, Record(3, 1, b"\xed\xa0\x80")],
-        Refused(6, 8),
+        Err(Refused(6, 8)),
     ),
     Case(
         "text-ed-bf-bf",
         &[DOC, Record(3, 1, b"\xed\xbf\xbf")],
-        Refused(6, 8),
+        Err(Refused(6, 8)),
     ),
     Case(
         "text-ee-80-80",
         &[DOC, Record(3, 1, b"\xee\x80\x80")],
-        Accepted(2),
+        Ok(2),
     ),
     Case(
         "text-ef-bf-bf",
         &[DOC, Record(3, 1, b"\xef\xbf\xbf")],
-        Accepted(2),
+        Ok(2),
     ),
     Case(
         "text-f0-8f-bf-bf",
         &[DOC, Record(3, 1, b"\xf0\x8f\xbf\xbf")],
-        Refused(6, 8),
+        Err(Refused(6, 8)),
     ),
     Case(
         "text-f0-90-80-80",
         &[DOC, Record(3, 1, b"\xf0\x90\x80\x80")],
-        Accepted(2),
+        Ok(2),
     ),
     Case(
         "text-f0-9f-98",
         &[DOC, Record(3, 1, b"\xf0\x9f\x98")],
-        Refused(6, 8),
+        Err(Refused(6, 8)),
     ),
     Case(
         "text-f4-8f-bf-bf",
         &[DOC, Record(3, 1, b"\xf4\x8f\xbf\xbf")],
-        Accepted(2),
+        Ok(2),
     ),
     Case(
         "text-f4-90-80-80",
         &[DOC, Record(3, 1, b"\xf4\x90\x80\x80")],
-        Refused(6, 8),
+        Err(Refused(6, 8)),
     ),
     Case(
         "text-f5-80-80-80",
         &[DOC, Record(3, 1, b"\xf5\x80\x80\x80")],
-        Refused(6, 8),
+        Err(Refused(6, 8)),
     ),
     Case(
         "text-after-text-not-utf8",
         &[DOC, TEXT1, Record(3, 1, b"\xff")],
-        Refused(6, 16),
+        Err(Refused(6, 16)),
     ),
     Case(
         "text-cut-between-records",
         &[DOC, Record(3, 1, b"\xc3"), Record(3, 1, b"\xa9")],
-        Refused(6, 8),
+        Err(Refused(6, 8)),
     ),
-    Case("document-not-utf8", &[Record(1, 0, b"\xff")], Accepted(1)),
-    Case(
-        "comment-not-utf8",
-        &[DOC, Record(4, 1, b"\xff")],
-        Accepted(2),
-    ),
-    Case(
-        "doctype-not-utf8",
-        &[DOC, Record(5, 1, b"\xff")],
-        Accepted(2),
-    ),
-    Case(
-        "instruction-not-utf8",
-        &[DOC, Record(6, 1, b"\xff")],
-        Accepted(2),
-    ),
+    Case("document-not-utf8", &[Record(1, 0, b"\xff")], Ok(1)),
+    Case("comment-not-utf8", &[DOC, Record(4, 1, b"\xff")], Ok(2)),
+    Case("doctype-not-utf8", &[DOC, Record(5, 1, b"\xff")], Ok(2)),
+    Case("instruction-not-utf8", &[DOC, Record(6, 1, b"\xff")], Ok(2)),
 ];
 
+/// Which of two refusals comes first.
 const TURNS: &[Case] = &[
     Case(
         "cut-before-kind",
         &[DOC, Raw(&[5, 0, 0, 0, 8, 0, 1, 0])],
-        Refused(2, 8),
+        Err(Refused(2, 8)),
     ),
     Case(
         "kind-before-depth",
         &[DOC, Record(8, 9, b"")],
-        Refused(3, 8),
+        Err(Refused(3, 8)),
     ),
     Case(
         "second-document-at-1",
         &[DOC, Record(1, 1, b"")],
-        Refused(3, 8),
+        Err(Refused(3, 8)),
     ),
     Case(
         "depth-before-name",
         &[DOC, Record(2, 2, b"")],
-        Refused(4, 8),
+        Err(Refused(4, 8)),
     ),
     Case(
         "depth-before-text",
         &[DOC, Record(3, 2, b"\xff")],
-        Refused(4, 8),
+        Err(Refused(4, 8)),
     ),
     Case(
         "depth-before-attribute-name",
         &[DOC, Record(7, 1, b"")],
-        Refused(4, 8),
+        Err(Refused(4, 8)),
     ),
     Case(
         "name-before-value",
         &[DOC, P1, Record(7, 2, b"\x01\xff\xff")],
-        Refused(5, 18),
+        Err(Refused(5, 18)),
     ),
     Case(
         "many-before-cut",
         &[DOC, Comments(4095), Raw(&[255])],
-        Refused(7, 32768),
+        Err(Refused(7, 32768)),
     ),
     Case(
         "many-before-kind",
         &[DOC, Comments(4095), Record(8, 1, b"")],
-        Refused(7, 32768),
+        Err(Refused(7, 32768)),
     ),
     Case(
         "cut-as-record-4096",
         &[DOC, Comments(4094), Raw(&[255])],
-        Refused(2, 32760),
+        Err(Refused(2, 32760)),
     ),
     Case(
         "first-record-first",
         &[DOC, Record(2, 1, b""), Record(8, 1, b"")],
-        Refused(5, 8),
+        Err(Refused(5, 8)),
     ),
 ];
 
-/// How much a page may have.
-pub(crate) fn limit_cases() -> &'static [Case] {
-    LIMITS
-}
-
-/// The length field.
-pub(crate) fn length_cases() -> &'static [Case] {
-    LENGTHS
-}
-
-/// The kind.
-pub(crate) fn kind_cases() -> &'static [Case] {
-    KINDS
-}
-
-/// The depth of a node.
-pub(crate) fn depth_cases() -> &'static [Case] {
-    DEPTHS
-}
-
-/// Where an attribute may stand.
-pub(crate) fn attribute_cases() -> &'static [Case] {
-    ATTRIBUTES
-}
-
-/// Namespaces, names and values.
-pub(crate) fn name_cases() -> &'static [Case] {
-    NAMES
-}
-
-/// The edges of UTF-8, and payloads that are not read.
-pub(crate) fn text_cases() -> &'static [Case] {
-    TEXTS
-}
-
-/// Which of two refusals comes first.
-pub(crate) fn turn_cases() -> &'static [Case] {
-    TURNS
+/// The tables, in the order in which they are tried.
+pub(crate) fn tables() -> [&'static [Case]; 8] {
+    [
+        LIMITS, LENGTHS, KINDS, DEPTHS, ATTRIBUTES, NAMES, TEXTS, TURNS,
+    ]
 }

@@ -80,26 +80,21 @@ fn written(digits: &[u8], room: usize, expected: Option<&[u8]>) -> bool {
     if room > ROOM {
         return false;
     }
-    match superscripts(digits, &mut space[0..room]) {
-        Ok(len) => space.as_slice().get(0..len) == expected,
+    match superscripts(digits, &mut space[..room]) {
+        Ok(len) => space.get(..len) == expected,
         Err(_) => expected.is_none() && space[0] == 0xFF,
     }
 }
 
-fn blank(bytes: &[u8]) -> Option<bool> {
-    match from_utf8(bytes) {
-        Some(text) => Some(is_blank(text)),
-        None => None,
-    }
-}
-
-/// Whether the answer is the expected one.
-pub(crate) fn is_right(question: Question) -> bool {
-    match question {
-        Question::Integer(text, expected) => parse_integer(text) == expected,
-        Question::Word(text, word, expected) => has_word(text, word) == expected,
-        Question::Blank(bytes, expected) => blank(bytes) == expected,
-        Question::Superscripts(digits, room, expected) => written(digits, room, expected),
-        Question::Characters(text, expected) => count_characters(text) == expected,
+impl Question {
+    /// Whether the answer is the expected one.
+    pub(crate) fn is_right(self) -> bool {
+        match self {
+            Question::Integer(text, expected) => parse_integer(text) == expected,
+            Question::Word(text, word, expected) => has_word(text, word) == expected,
+            Question::Blank(bytes, expected) => from_utf8(bytes).map(is_blank) == expected,
+            Question::Superscripts(digits, room, expected) => written(digits, room, expected),
+            Question::Characters(text, expected) => count_characters(text) == expected,
+        }
     }
 }

@@ -1,5 +1,3 @@
 pub mod Orders
 pub mod Winning
 pub mod Elements
-pub mod Entering
-pub mod Marked

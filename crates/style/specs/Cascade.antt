@@ -1,6 +1,6 @@
 -- CSS Cascading: which of two declarations wins, and which of many.
-use Rattle.std.specs.Prelude.{◌≡◌, ℕ, ◌-◌, Bool, true, false, cond, ◌&&◌, ◌||◌, List, [], ◌∷◌, ◌++◌, is_some, Some, None, ◌==◌, nat_lt}
-use Rattle.std.specs.List.{AllByRecursion}
+use Rattle.std.specs.Prelude.{All, ◌≡◌, ℕ, ◌-◌, Bool, true, false, cond, ◌&&◌, ◌||◌, List, [], ◌∷◌, ◌++◌, fold, is_some, Some, None, Option, ◌==◌, nat_lt}
+use Rattle.std.specs.Option.{option_map, unwrap_or}
 use Rattle.style.specs.declared.values.Colour.{Colour}
 use Rattle.style.specs.declared.values.StyleOrigin.{StyleOrigin}
 use Rattle.style.specs.declared.values.StyleOrigin.TheVariants.{None as NoOrigin, Agent, User, Author}
@@ -56,6 +56,10 @@ below a b =
     first_of (bit a.important) (bit b.important)
     (first_of (rank a.important a.origin) (rank b.important b.origin) (less_specific a.specificity b.specificity))
 
+-- what an empty cell says
+abbrev pub no_weight : Weight
+no_weight = record { important = false; origin = NoOrigin; specificity = record { inline = false; id = 0; class = 0; typ = 0 } }
+
 -- ---- the cascade, over declarations of one property
 
 module _ {T : Type 0} where
@@ -64,28 +68,30 @@ module _ {T : Type 0} where
   Wins ds d =
       (earlier : List (Declaration T)) × (later : List (Declaration T))
       × (ds ≡ earlier ++ (d ∷ later))
-      × AllByRecursion (λ e. below d.weight e.weight ≡ false) earlier
-      × AllByRecursion (λ e. below e.weight d.weight ≡ true) later
+      × All (λ e. below d.weight e.weight ≡ false) earlier
+      × All (λ e. below e.weight d.weight ≡ true) later
 
   -- a cell without a value
   abbrev pub empty : WithSpec T
-  empty = record { val = None; origin = NoOrigin; specificity = record { inline = false; id = 0; class = 0; typ = 0 }; important = false }
+  empty = record { won = None }
 
   -- the cell that holds a declaration
   abbrev pub holding : Declaration T → WithSpec T
-  holding d = record { val = Some d.value; origin = d.weight.origin; specificity = d.weight.specificity; important = d.weight.important }
+  holding d = record { won = Some d }
+
+  abbrev pub value_of : WithSpec T → Option T
+  value_of c = option_map (λ d. d.value) c.won
 
   abbrev pub weight_of : WithSpec T → Weight
-  weight_of c = record { important = c.important; origin = c.origin; specificity = c.specificity }
+  weight_of c = unwrap_or (option_map (λ d. d.weight) c.won) no_weight
 
   -- a declaration enters a cell: it replaces a value that does not outrank it
   abbrev pub entered : WithSpec T → Declaration T → WithSpec T
-  entered c d = cond (is_some c.val && below d.weight (weight_of c)) c (holding d)
+  entered c d = cond (is_some (value_of c) && below d.weight (weight_of c)) c (holding d)
 
   -- one after the other
   abbrev pub all_entered : WithSpec T → List (Declaration T) → WithSpec T
-  all_entered c [] = c
-  all_entered c (d ∷ ds) = all_entered (entered c d) ds
+  all_entered c ds = fold entered c ds
 
   -- the cell holds the cascade's winner, or nothing where there is no declaration
   abbrev pub HoldsWinner : List (Declaration T) → WithSpec T → Type 0
@@ -102,8 +108,8 @@ red = record { r = 255; g = 0; b = 0 }
 abbrev pub RedWins : Type 0
 RedWins =
     (s : Specificity)
-    → (all_entered empty
+    → value_of (all_entered empty
     (record { weight = record { important = false; origin = Agent; specificity = s }; value = blue }
     ∷ record { weight = record { important = true; origin = Author; specificity = s }; value = red }
-    ∷ [])).val
+    ∷ []))
     ≡ Some red

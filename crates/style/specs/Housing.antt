@@ -1,14 +1,18 @@
 -- Declarations of the house, over any source.
 use Rattle.std.specs.Prelude.{false, cond, List, Some, None, fold, Option}
+use Rattle.std.specs.List.{filter_map}
+use Rattle.std.specs.Option.{option_and_then}
 use Rattle.std.specs.Str.{bytes_eq}
 use Rattle.dom.specs.Dom.{Element}
 use Rattle.style.specs.declared.values.StyleOrigin.TheVariants.{User}
 use Rattle.style.specs.declared.values.Weight.{Weight}
 use Rattle.style.specs.declared.rule.Tag.TheVariants.{Name}
 use Rattle.style.specs.declared.house.HouseRule.{HouseRule}
+use Rattle.style.specs.declared.cell.Declaration.{Declaration}
 use Rattle.style.specs.declared.style.ComputedStyle.{ComputedStyle}
+use Rattle.style.specs.declared.style.Property.{Property}
 use Rattle.style.specs.Names.{name_bytes}
-use Rattle.style.specs.Styles.{with_property}
+use Rattle.style.specs.Styles.{with_declared}
 use Rattle.style.specs.Matching.{one_in}
 use Rattle.style.specs.Source.{Meaning}
 
@@ -16,12 +20,16 @@ use Rattle.style.specs.Source.{Meaning}
 abbrev pub house_weight : Weight
 house_weight = record { important = false; origin = User; specificity = one_in Name }
 
-abbrev pub house_rule_entered : Element → ComputedStyle → Option HouseRule → ComputedStyle
-house_rule_entered e s None = s
-house_rule_entered e s (Some r) = cond (bytes_eq e.name.bytes (name_bytes r.name)) (with_property s house_weight r.property) s
+-- what a declaration of the house says of an element: nothing unless it is for the element's name
+abbrev pub house_declared : Element → HouseRule → Option (Declaration Property)
+house_declared e r = cond (bytes_eq e.name.bytes (name_bytes r.name)) (Some (record { weight = house_weight; value = r.property })) None
+
+-- the same of a slot, which may be empty
+abbrev pub slot_declared : Element → Option HouseRule → Option (Declaration Property)
+slot_declared e r = option_and_then (house_declared e) r
 
 abbrev pub house_entered : List (Option HouseRule) → Element → ComputedStyle → ComputedStyle
-house_entered rs e s = fold (house_rule_entered e) s rs
+house_entered rs e s = fold with_declared s (filter_map (slot_declared e) rs)
 
 -- the declarations enter the answer below in their order
 abbrev pub house_mean : List (Option HouseRule) → Meaning → Meaning

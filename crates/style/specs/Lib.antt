@@ -5,3 +5,4 @@ pub mod Matching
 pub mod Marking
 pub mod Names
 pub mod Housing
+pub mod Printing

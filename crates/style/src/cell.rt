@@ -1,4 +1,8 @@
 //! Declarations, and the cell in which they meet.
+ghost use Rattle.std.specs.Prelude.{◌≡◌};
+ghost use Rattle.std.specs.Option.{option_map};
+ghost use Rattle.style.specs.Cascade.{empty, entered, weight_of, value_of};
+
 use crate::values::{Specificity, StyleOrigin, Weight};
 
 /// A value, and what the cascade weighs in its declaration.
@@ -8,11 +12,59 @@ pub struct Declaration<T> {
     pub value: T,
 }
 
-/// The value that has won so far, if any, and what the cascade weighs in its declaration.
+/// The declaration that has won so far, if any.
 #[derive(Clone, Copy)]
 pub struct WithSpec<T> {
-    pub(crate) val: Option<T>,
-    pub(crate) origin: StyleOrigin,
-    pub(crate) specificity: Specificity,
-    pub(crate) important: bool,
+    won: Option<Declaration<T>>,
+}
+
+impl<T: Copy> WithSpec<T> {
+    /// A cell without a value.
+    pub fn new() -> WithSpec<T>
+        ensures { result ≡ empty }
+    {
+        WithSpec { won: None }
+    }
+
+    /// Enters a declaration: it replaces one that does not outrank it.
+    pub(crate) fn enter(&mut self, declaration: Declaration<T>)
+        ensures { self.new ≡ entered self.old declaration }
+    {
+        let weight = declaration.weight;
+        if self.won.is_none_or(|won| !weight.is_below(won.weight)) {
+            self.won = Some(declaration);
+        }
+    }
+
+    /// Enters a declaration by its parts, which are html2text's: it replaces one that does not outrank it.
+    pub fn maybe_update(
+        &mut self,
+        important: bool,
+        origin: StyleOrigin,
+        specificity: Specificity,
+        val: T,
+    )
+        ensures { self.new ≡ entered self.old (record { weight = record { important = important; origin = origin; specificity = specificity }; value = val }) }
+    {
+        let weight = Weight {
+            important,
+            origin,
+            specificity,
+        };
+        self.enter(Declaration { weight, value: val });
+    }
+
+    /// What the cascade weighs in the declaration that has won so far: the least weight if there is none.
+    pub fn weight(&self) -> Weight
+        ensures { result ≡ weight_of self.now }
+    {
+        self.won.map(|won| won.weight).unwrap_or_default()
+    }
+
+    /// The value, if there is one.
+    pub fn val(&self) -> Option<&T>
+        ensures { option_map (λ x. x.now) result ≡ value_of self.now }
+    {
+        self.won.as_ref().map(|won| &won.value)
+    }
 }

@@ -4,13 +4,10 @@
 pub mod cell;
 pub mod cells;
 pub mod house;
-pub mod houses;
 pub mod mark;
-pub mod marks;
 pub mod name;
+mod printing;
 pub mod rule;
-pub mod rules;
 pub mod source;
 pub mod style;
-pub mod styles;
 pub mod values;

@@ -1,17 +1,42 @@
 -- Hexadecimal, two digits at a time. Assumes nothing.
-use Rattle.std.proofs.Common.{◌≡◌, ℕ, ◌-◌, ◌≤◌, List, [], ◌∷◌, ◌++◌, length, get_or, take, drop, Some, None, Option, refl, ap, ◌∙◌, append_assoc, arith}
-use Rattle.std.proofs.lemmas.List.{take_rest}
+use Rattle.std.proofs.Common.{◌≡◌, ℕ, zero, suc, ◌+◌, ◌*◌, ◌<◌, List, [], ◌∷◌, ◌++◌, length, get_or, drop, Some, None, Option, sym, refl, ap, ◌∙◌, append_assoc, arith}
+use Rattle.std.proofs.lemmas.List.{at_drop_more}
 use Rattle.std.specs.Option.{option_map}
+use Rattle.std.specs.Simd.{first_chunks}
 use Rattle.style_file.specs.Words.{then, byte_of, hex_bytes}
+
+abbrev pub pairs_read : List (List ℕ) → Option (List ℕ)
+pairs_read [] = Some []
+pairs_read (p ∷ ps) = then (byte_of (get_or p 0 0) (get_or p 1 0)) (λ b. option_map (λ xs. b ∷ xs) (pairs_read ps))
+
+pub by_pairs : (n : ℕ) (w : List ℕ) → length w ≡ n * 2 → pairs_read (first_chunks 2 n w) ≡ hex_bytes w
+by_pairs zero [] l = refl
+by_pairs zero (a ∷ w) l = absurd (omega arith)
+by_pairs (suc n) [] l = absurd (omega arith)
+by_pairs (suc n) (a ∷ []) l = absurd (omega arith)
+by_pairs (suc n) (a ∷ b ∷ w) l = ap (λ o. then (byte_of a b) (λ x. option_map (λ xs. x ∷ xs) o)) (by_pairs n w (omega arith))
+
+no_more : (o : Option ℕ) → ◌≡◌ {A = Option (List ℕ)} None (then o (λ x. option_map (λ xs. x ∷ xs) None))
+no_more None = refl
+no_more (Some x) = refl
+
+pub one_over : (n : ℕ) (w : List ℕ) → length w ≡ n * 2 + 1 → None ≡ hex_bytes w
+one_over n [] l = absurd (omega arith)
+one_over n (a ∷ []) l = refl
+one_over zero (a ∷ b ∷ w) l = absurd (omega arith)
+one_over (suc n) (a ∷ b ∷ w) l = no_more (byte_of a b) ∙ ap (λ o. then (byte_of a b) (λ x. option_map (λ xs. x ∷ xs) o)) (one_over n w (omega arith))
+
+-- what the pairs from that one on give behind the bytes so far
+abbrev pub read_behind : List ℕ → List (List ℕ) → Option (List ℕ)
+read_behind done ps = option_map (λ xs. done ++ xs) (pairs_read ps)
 
 prepended : (done : List ℕ) (b : ℕ) (o : Option (List ℕ)) → option_map (λ xs. (done ++ (b ∷ [])) ++ xs) o ≡ option_map (λ xs. done ++ xs) (option_map (λ xs. b ∷ xs) o)
 prepended done b None = refl
 prepended done b (Some xs) = ap Some (append_assoc done (b ∷ []) xs)
 
-pub hex_step : (done rest : List ℕ) (b : ℕ) → 2 ≤ length rest → Some b ≡ byte_of (get_or rest 0 0) (get_or rest 1 0) → option_map (λ xs. (done ++ (b ∷ [])) ++ xs) (hex_bytes (take (length rest - 2) (drop 2 rest))) ≡ option_map (λ xs. done ++ xs) (hex_bytes rest)
-hex_step done [] b l e = absurd (omega arith)
-hex_step done (x ∷ []) b l e = absurd (omega arith)
-hex_step done (x ∷ y ∷ bs) b l e =
-    ap (λ xs. option_map (λ ys. (done ++ (b ∷ [])) ++ ys) (hex_bytes xs)) (take_rest (x ∷ y ∷ bs) 2)
-    ∙ prepended done b (hex_bytes bs)
-    ∙ ap (λ o. option_map (λ xs. done ++ xs) (then o (λ z. option_map (λ xs. z ∷ xs) (hex_bytes bs)))) e
+pub byte_read : (ps : List (List ℕ)) (i : ℕ) (done : List ℕ) (b : ℕ) → i < length ps → Some b ≡ byte_of (get_or (get_or ps i []) 0 0) (get_or (get_or ps i []) 1 0) → read_behind (done ++ (b ∷ [])) (drop (i + 1) ps) ≡ read_behind done (drop i ps)
+byte_read ps i done b l e =
+    let more = drop (i + 1) ps in
+    prepended done b (pairs_read more)
+    ∙ ap (λ o. option_map (λ xs. done ++ xs) (then o (λ x. option_map (λ xs. x ∷ xs) (pairs_read more)))) e
+    ∙ sym (at_drop_more (read_behind done) ps i [] l)

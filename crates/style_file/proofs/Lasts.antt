@@ -1,14 +1,14 @@
 -- The last of a list, and how long it is. Assumes nothing.
-use Rattle.std.proofs.Common.{◌≡◌, ℕ, zero, suc, ◌-◌, ◌<◌, ◌≤◌, List, [], ◌∷◌, length, get_or, set, Some, None, refl, ap, ◌∙◌, arith}
+use Rattle.std.proofs.Common.{◌≡◌, ℕ, ◌-◌, ◌<◌, List, [], ◌∷◌, length, get_or, set, Some, ap, ◌∙◌, arith}
 use Rattle.std.specs.Option.{option_map}
-use Rattle.style_file.specs.Files.{in_last}
-use Rattle.style_file.specs.Sources.{slot_of}
+use Rattle.style.specs.Styles.{with_property}
+use Rattle.style.specs.declared.mark.Mark.{Mark}
+use Rattle.style.specs.declared.style.ComputedStyle.{ComputedStyle}
+use Rattle.style.specs.declared.style.Property.{Property}
+use Rattle.style.specs.declared.values.Weight.{Weight}
+use Rattle.style_file.specs.Files.{File, in_last, with_cell, cell_added}
 
 module _ {A : Type 0} (g : A → A) where
-  pub no_last : (xs : List A) → length xs ≡ 0 → None ≡ in_last g xs
-  no_last [] e = refl
-  no_last (x ∷ xs) e = absurd (omega arith)
-
   -- at the last index
   at_last : (xs : List A) (y x : A) → x ≡ get_or (y ∷ xs) (length xs) x → Some (set (y ∷ xs) (length xs) (g x)) ≡ in_last g (y ∷ xs)
   at_last [] y x e = ap (λ z. Some (g z ∷ [])) e
@@ -20,13 +20,9 @@ module _ {A : Type 0} (g : A → A) where
       let m : i ≡ length xs = omega arith in
       ap (λ j. Some (set (y ∷ xs) j (g x))) m ∙ at_last xs y x (e ∙ ap (λ j. get_or (y ∷ xs) j x) m)
 
--- ---- the one with a number
-pub slot_there : {A : Type 0} (xs : List A) (i : ℕ) (x : A) → i < length xs → x ≡ get_or xs i x → Some x ≡ slot_of xs i
-slot_there [] i x l e = absurd (omega arith)
-slot_there (y ∷ xs) zero x l e = ap Some e
-slot_there (y ∷ xs) (suc i) x l e = slot_there xs i x (omega arith) e
-
-pub slot_past : {A : Type 0} (xs : List A) (i : ℕ) → length xs ≤ i → None ≡ slot_of xs i
-slot_past [] i l = refl
-slot_past (y ∷ xs) zero l = absurd (omega arith)
-slot_past (y ∷ xs) (suc i) l = slot_past xs i (omega arith)
+-- a cell enters the style of the last mark
+pub cell_enters : (f : File) (w : Weight) (x : Property × List ℕ) (m : Mark) (i : ℕ) (s : ComputedStyle) → 0 < length f.marks → i ≡ length f.marks - 1 → m ≡ get_or f.marks i m → s ≡ with_property m.style w x.0 → Some (record { rules = f.rules; marks = set f.marks i (record { «record» = m.record; style = s }); house = f.house; bytes = x.1 }) ≡ cell_added f w x
+cell_enters f w x m i s l n e p =
+    let from : List Mark → File = λ ms. record { rules = f.rules; marks = ms; house = f.house; bytes = x.1 } in
+    ap (λ z. Some (from (set f.marks i (record { «record» = m.record; style = z })))) p
+    ∙ ap (option_map from) (last_set (with_cell w x.0) f.marks m i l n e)

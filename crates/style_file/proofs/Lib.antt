@@ -1,5 +1,6 @@
 pub mod Counted
 pub mod Digits
 pub mod Lasts
-pub mod Housed
-pub mod Cut
+pub mod Made
+pub mod Spelling
+pub mod Numbered

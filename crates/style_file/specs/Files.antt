@@ -26,8 +26,11 @@ no_items = record { rules = []; marks = []; house = []; bytes = [] }
 abbrev pub place_behind : List ℕ → List ℕ → Place
 place_behind bs w = record { start = length bs; len = length w }
 
+abbrev pub appended : List ℕ → List ℕ → Place × List ℕ
+appended bs t = (place_behind bs t, bs ++ t)
+
 abbrev pub text_added : List ℕ → List ℕ → Option (Place × List ℕ)
-text_added bs w = option_map (λ t. (place_behind bs t, bs ++ t)) (text_of w)
+text_added bs w = option_map (appended bs) (text_of w)
 
 abbrev pub property_added : List ℕ → Setting → Option (Property × List ℕ)
 property_added bs (Setting.plain p) = Some (p, bs)
@@ -37,15 +40,13 @@ property_added bs (Setting.after w) = option_map (λ x. (Property.After x.0, x.1
 -- ---- the items
 abbrev pub rule_added : File → Tag → List ℕ → StyleOrigin → Bool → Property × List ℕ → File
 rule_added f t w o i x =
-    record {
+    record f {
       rules = f.rules ++ (record { tag = t; place = place_behind x.1 w; origin = o; important = i; property = x.0 } ∷ []);
-      marks = f.marks;
-      house = f.house;
       bytes = x.1 ++ w;
     }
 
 abbrev pub mark_added : File → ℕ → File
-mark_added f n = record { rules = f.rules; marks = f.marks ++ (record { «record» = n; style = default_style } ∷ []); house = f.house; bytes = f.bytes }
+mark_added f n = record f { marks = f.marks ++ (record { «record» = n; style = default_style } ∷ []) }
 
 -- the last of the list changes, if there is one
 abbrev pub in_last : {A : Type 0} → (A → A) → List A → Option (List A)
@@ -54,17 +55,17 @@ in_last g (m ∷ []) = Some (g m ∷ [])
 in_last g (m ∷ n ∷ ms) = option_map (λ xs. m ∷ xs) (in_last g (n ∷ ms))
 
 abbrev pub with_cell : Weight → Property → Mark → Mark
-with_cell w p m = record { «record» = m.record; style = with_property m.style w p }
+with_cell w p m = record m { style = with_property m.style w p }
 
 -- a cell enters the style of the last mark
 abbrev pub cell_added : File → Weight → Property × List ℕ → Option File
-cell_added f w x = option_map (λ ms. record { rules = f.rules; marks = ms; house = f.house; bytes = x.1 }) (in_last (with_cell w x.0) f.marks)
+cell_added f w x = option_map (λ ms. record f { marks = ms; bytes = x.1 }) (in_last (with_cell w x.0) f.marks)
 
 -- a name of at most 16 bytes, and at most 16 declarations
 abbrev pub house_added : File → List ℕ → Property × List ℕ → Option File
 house_added f n x =
     cond (nat_le (length n) 16)
-    (cond (nat_lt (length f.house) 16) (Some (record { rules = f.rules; marks = f.marks; house = f.house ++ ((n, x.0) ∷ []); bytes = x.1 })) None)
+    (cond (nat_lt (length f.house) 16) (Some (record f { house = f.house ++ ((n, x.0) ∷ []); bytes = x.1 })) None)
     None
 
 abbrev pub added : File → Item → Option File

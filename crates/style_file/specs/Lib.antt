@@ -2,6 +2,8 @@ pub mod Words
 pub mod Items
 pub mod Files
 pub mod Said
+pub mod Refusals
 pub mod Reading
 pub mod Read
+pub mod Faults
 pub mod Sources

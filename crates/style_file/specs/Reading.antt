@@ -1,17 +1,13 @@
 -- A style file: lines, each ended by a line feed or by the end of the file.
-use Rattle.std.specs.Prelude.{ℕ, suc, cond, List, [], ◌∷◌, Some, None, Ok, Err, Option, Result, ◌==◌}
+use Rattle.std.specs.Prelude.{ℕ, suc, List, [], ◌∷◌, Some, None, Ok, Err, Option, Result, ◌==◌}
+use Rattle.std.specs.List.{slice_split}
 use Rattle.text.specs.Infra.{words}
 use Rattle.style_file.specs.Words.{then}
 use Rattle.style_file.specs.Items.{item_of}
 use Rattle.style_file.specs.Files.{File, no_items, added}
 
--- the first line, and the lines behind it
-abbrev pub cut_lines : List ℕ → List ℕ × List (List ℕ)
-cut_lines [] = ([], [])
-cut_lines (b ∷ bs) = let p = cut_lines bs in cond (b == 10) ([], p.0 ∷ p.1) (b ∷ p.0, p.1)
-
 abbrev pub lines : List ℕ → List (List ℕ)
-lines bs = (cut_lines bs).0 ∷ (cut_lines bs).1
+lines text = slice_split (λ b. b == 10) text
 
 -- what a line says is added, if it is understood
 abbrev pub line_added : File → List ℕ → Option File
@@ -26,12 +22,3 @@ going_on n (Some f) (l ∷ ls) = going_on (suc n) (line_added f l) ls
 -- lines are numbered from 1
 abbrev pub file_of : List ℕ → Result File ℕ
 file_of text = going_on 0 (Some no_items) (lines text)
-
--- ---- one line at a time
-abbrev pub line_of : List ℕ → List ℕ
-line_of [] = []
-line_of (b ∷ bs) = cond (b == 10) [] (b ∷ line_of bs)
-
-abbrev pub behind_line : List ℕ → Option (List ℕ)
-behind_line [] = None
-behind_line (b ∷ bs) = cond (b == 10) (Some bs) (behind_line bs)

@@ -19,7 +19,7 @@ said_setting (After w) = Setting.after w.now
 
 abbrev pub said : BorrowedItem → Item
 said Nothing = Item.nothing
-said (Rule t w o i s) = Item.rule t w.now o i (said_setting s)
+said (Rule r) = Item.rule r.tag r.word.now r.origin r.important (said_setting r.setting)
 said (Mark n) = Item.mark n
 said (Cell w s) = Item.cell w (said_setting s)
 said (House n s) = Item.house n.now (said_setting s)

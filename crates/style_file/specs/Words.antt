@@ -91,11 +91,15 @@ pub data Setting : Type 0 where
   plain : Property → Setting
   before after : List ℕ → Setting
 
-abbrev pub setting_of : List ℕ → List ℕ → Option Setting
+abbrev pub property_of : (name value : List ℕ) → Option Property
+property_of p v =
+    cond (bytes_eq p (codes "colour")) (option_map (λ x. Property.Colour x) (colour_of v))
+    (cond (bytes_eq p (codes "bg")) (option_map (λ x. Property.BgColour x) (colour_of v))
+    (cond (bytes_eq p (codes "display")) (option_map (λ x. Property.Display x) (display_of v))
+    (cond (bytes_eq p (codes "ws")) (option_map (λ x. Property.WhiteSpace x) (white_space_of v)) None)))
+
+abbrev pub setting_of : (property value : List ℕ) → Option Setting
 setting_of p v =
-    cond (bytes_eq p (codes "colour")) (option_map (λ x. Setting.plain (Property.Colour x)) (colour_of v))
-    (cond (bytes_eq p (codes "bg")) (option_map (λ x. Setting.plain (Property.BgColour x)) (colour_of v))
-    (cond (bytes_eq p (codes "display")) (option_map (λ x. Setting.plain (Property.Display x)) (display_of v))
-    (cond (bytes_eq p (codes "ws")) (option_map (λ x. Setting.plain (Property.WhiteSpace x)) (white_space_of v))
-    (says p (codes "before") (Setting.before v)
-    (says p (codes "after") (Setting.after v) None)))))
+    says p (codes "before") (Setting.before v)
+    (says p (codes "after") (Setting.after v)
+    (option_map Setting.plain (property_of p v)))

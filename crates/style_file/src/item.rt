@@ -11,18 +11,22 @@ pub(crate) enum Setting<'a> {
     After(&'a [u8]),
 }
 
+/// A rule whose setting is not yet read, and whose word does not yet stand in the bytes of the file.
+#[derive(Clone, Copy)]
+pub(crate) struct RuleLine<'a> {
+    pub(crate) tag: Tag,
+    pub(crate) word: &'a [u8],
+    pub(crate) origin: StyleOrigin,
+    pub(crate) important: bool,
+    pub(crate) setting: Setting<'a>,
+}
+
 /// The item of a line.
 #[derive(Clone, Copy)]
 pub(crate) enum Item<'a> {
     /// The line is empty or a comment.
     Nothing,
-    Rule {
-        tag: Tag,
-        word: &'a [u8],
-        origin: StyleOrigin,
-        important: bool,
-        setting: Setting<'a>,
-    },
+    Rule(RuleLine<'a>),
     Mark(usize),
     Cell {
         weight: Weight,

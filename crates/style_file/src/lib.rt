@@ -8,5 +8,6 @@ pub mod hex;
 pub mod item;
 pub mod line;
 pub mod read;
+pub mod refusal;
 pub mod source;
 pub mod word;

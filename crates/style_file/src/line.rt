@@ -1,41 +1,17 @@
 //! One line of a style file.
+#![tactic(auto, using(crate::proofs::Counted::counted))]
+
 ghost use Rattle.std.specs.Prelude.{◌≡◌, map, IfOk};
 ghost use Rattle.std.specs.Option.{option_map};
 ghost use Rattle.text.specs.Infra.{words};
-ghost use Rattle.style_file.specs.Items.{is_comment, rule_from, rule_of, house_from, house_of, mark_from, mark_of, specificity_from, cell_from, cell_of, item_of};
+ghost use Rattle.style_file.specs.Items.{rule_of, house_of, mark_of, specificity_from, cell_of, item_of};
 ghost use Rattle.style_file.specs.Said.{said};
 
-use crate::item::Item;
-use crate::word::{bit_of, count_of, is, origin_of, record_of, setting_of, tag_of};
+use crate::item::{Item, RuleLine};
+use crate::word::{bit_of, count_of, origin_of, record_of, setting_of, tag_of};
 use std::alloc::{AllocError, Global};
 use style::values::{Specificity, Weight};
-use text::words::next_word;
-
-fn is_comment(word: &[u8]) -> bool
-    ensures { result ≡ is_comment word.now }
-{
-    matches!(word, [b'#', ..])
-}
-
-/// The item of a rule's words.
-fn rule_from<'a>(
-    tag: &[u8],
-    word: &'a [u8],
-    origin: &[u8],
-    important: &[u8],
-    property: &[u8],
-    value: &'a [u8],
-) -> Option<Item<'a>>
-    ensures { option_map said result ≡ rule_from tag.now word.now origin.now important.now property.now value.now }
-{
-    Some(Item::Rule {
-        tag: tag_of(tag)?,
-        word,
-        origin: origin_of(origin)?,
-        important: bit_of(important)?,
-        setting: setting_of(property, value)?,
-    })
-}
+use text::words::words;
 
 /// `rule TAG WORD ORIGIN IMPORTANT PROPERTY VALUE`, without its first word.
 fn rule<'a>(words: &[&'a [u8]]) -> Option<Item<'a>>
@@ -44,16 +20,13 @@ fn rule<'a>(words: &[&'a [u8]]) -> Option<Item<'a>>
     let [tag, word, origin, important, property, value] = words else {
         return None;
     };
-    rule_from(tag, word, origin, important, property, value)
-}
-
-fn house_from<'a>(name: &'a [u8], property: &[u8], value: &'a [u8]) -> Option<Item<'a>>
-    ensures { option_map said result ≡ house_from name.now property.now value.now }
-{
-    Some(Item::House {
-        name,
+    Some(Item::Rule(RuleLine {
+        tag: tag_of(tag)?,
+        word,
+        origin: origin_of(origin)?,
+        important: bit_of(important)?,
         setting: setting_of(property, value)?,
-    })
+    }))
 }
 
 /// `house NAME PROPERTY VALUE`, without its first word.
@@ -63,13 +36,10 @@ fn house<'a>(words: &[&'a [u8]]) -> Option<Item<'a>>
     let [name, property, value] = words else {
         return None;
     };
-    house_from(name, property, value)
-}
-
-fn mark_from<'a>(number: &'a [u8]) -> Option<Item<'a>>
-    ensures { option_map said result ≡ mark_from number.now }
-{
-    Some(Item::Mark(record_of(number)?))
+    Some(Item::House {
+        name,
+        setting: setting_of(property, value)?,
+    })
 }
 
 /// `mark RECORD`, without its first word.
@@ -79,7 +49,7 @@ fn mark<'a>(words: &[&'a [u8]]) -> Option<Item<'a>>
     let [number] = words else {
         return None;
     };
-    mark_from(number)
+    Some(Item::Mark(record_of(number)?))
 }
 
 /// `INLINE ID CLASS TYP`
@@ -94,26 +64,6 @@ fn specificity(inline: &[u8], id: &[u8], class: &[u8], typ: &[u8]) -> Option<Spe
     })
 }
 
-fn cell_from<'a>(
-    property: &[u8],
-    value: &'a [u8],
-    origin: &[u8],
-    important: &[u8],
-    specificity: Option<Specificity>,
-) -> Option<Item<'a>>
-    ensures { option_map said result ≡ cell_from property.now value.now origin.now important.now specificity }
-{
-    let weight = Weight {
-        important: bit_of(important)?,
-        origin: origin_of(origin)?,
-        specificity: specificity?,
-    };
-    Some(Item::Cell {
-        weight,
-        setting: setting_of(property, value)?,
-    })
-}
-
 /// `cell PROPERTY VALUE ORIGIN IMPORTANT INLINE ID CLASS TYP`, without its first word.
 fn cell<'a>(words: &[&'a [u8]]) -> Option<Item<'a>>
     ensures { option_map said result ≡ cell_of (map (λ x. x.now) words.now) }
@@ -121,13 +71,15 @@ fn cell<'a>(words: &[&'a [u8]]) -> Option<Item<'a>>
     let [property, value, origin, important, inline, id, class, typ] = words else {
         return None;
     };
-    cell_from(
-        property,
-        value,
-        origin,
-        important,
-        specificity(inline, id, class, typ),
-    )
+    let weight = Weight {
+        important: bit_of(important)?,
+        origin: origin_of(origin)?,
+        specificity: specificity(inline, id, class, typ)?,
+    };
+    Some(Item::Cell {
+        weight,
+        setting: setting_of(property, value)?,
+    })
 }
 
 /// The item of a line's words, if they are understood.
@@ -137,33 +89,19 @@ pub(crate) fn item<'a>(words: &[&'a [u8]]) -> Option<Item<'a>>
     let [first, rest @ ..] = words else {
         return Some(Item::Nothing);
     };
-    if is_comment(first) {
-        return Some(Item::Nothing);
+    match *first {
+        [b'#', ..] => Some(Item::Nothing),
+        b"rule" => rule(rest),
+        b"mark" => mark(rest),
+        b"cell" => cell(rest),
+        b"house" => house(rest),
+        _ => None,
     }
-    if is(first, b"rule") {
-        return rule(rest);
-    }
-    if is(first, b"mark") {
-        return mark(rest);
-    }
-    if is(first, b"cell") {
-        return cell(rest);
-    }
-    if is(first, b"house") {
-        return house(rest);
-    }
-    None
 }
 
 /// The words of a line.
 pub(crate) fn words_of(heap: Global, line: &[u8]) -> Result<Vec<&[u8]>, AllocError>
     ensures { IfOk result (λ v. map (λ x. x.now) v.items ≡ words line.now) }
 {
-    let mut all = Vec::new(heap);
-    let mut rest = line;
-    while let Some((word, after)) = next_word(rest) {
-        all.push(word)?;
-        rest = after;
-    }
-    Ok(all)
+    words(line).collect(heap)
 }

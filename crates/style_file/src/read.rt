@@ -1,23 +1,15 @@
 //! Reading a style file.
-ghost use Rattle.std.specs.Prelude.{◌≡◌, ◌∷◌, IfOk};
-ghost use Rattle.std.specs.Option.{option_map};
-ghost use Rattle.style_file.specs.declared.file.Fault.TheVariants.{Memory};
+ghost use Rattle.std.specs.Prelude.{◌≡◌, Some};
+ghost use Rattle.style_file.specs.Refusals.{Gives};
 ghost use Rattle.style_file.specs.Said.{file_said};
 ghost use Rattle.style_file.specs.Files.{no_items};
-ghost use Rattle.style_file.specs.Reading.{line_of, behind_line, line_added, file_of};
-ghost use Rattle.style_file.specs.Read.{Reads};
+ghost use Rattle.style_file.specs.Reading.{line_added, lines, going_on, file_of};
+ghost use Rattle.style_file.specs.Read.{Adds, Reads};
 
 use crate::file::{Fault, StyleFile};
 use crate::line::{item, words_of};
-use std::alloc::{AllocError, Global};
-
-impl From<AllocError> for Fault {
-    ghost from_gives = { λ _ r. r ≡ Memory };
-
-    fn from(_error: AllocError) -> Fault {
-        Fault::Memory
-    }
-}
+use crate::refusal::Refusal;
+use std::alloc::Global;
 
 impl StyleFile {
     /// The file without items.
@@ -31,30 +23,25 @@ impl StyleFile {
             bytes: Vec::new(heap),
         }
     }
-}
 
-/// The first line, and what stands behind its line feed, if it has one.
-fn split_line(text: &[u8]) -> (&[u8], Option<&[u8]>)
-    ensures line { result.0.now ≡ line_of text.now }
-    ensures behind { option_map (λ x. x.now) result.1 ≡ behind_line text.now }
-{
-    for (i, b) in text.iter().enumerate() {
-        if *b == b'\n' {
-            return (&text[0..i], Some(&text[i + 1..]));
-        }
+    /// Adds what the line says, if it is understood.
+    fn add_line(&mut self, line: &[u8]) -> Result<(), Refusal>
+        ensures { Gives (λ _. file_said self.new) result (line_added (file_said self.old) line.now) }
+    {
+        let words = words_of(*self.bytes.allocator(), line)?;
+        let item = item(words.as_slice()).ok_or(Refusal::Misplaced)?;
+        self.add(item)
     }
-    (text, None)
-}
 
-/// Adds what the line says, if it is understood.
-fn add_line(heap: Global, file: &mut StyleFile, line: &[u8]) -> Result<Option<()>, AllocError>
-    ensures { IfOk result (λ o. option_map (λ _. file_said file.new) o ≡ line_added (file_said file.old) line.now) }
-{
-    let words = words_of(heap, line)?;
-    let Some(item) = item(words.as_slice()) else {
-        return Ok(None);
-    };
-    file.add(heap, item)
+    /// Adds what the lines of the text say.
+    fn add_lines(&mut self, text: &[u8]) -> Result<(), Fault>
+        ensures { Adds (going_on 0 (Some (file_said self.old)) (lines text.now)) (file_said self.new) result }
+    {
+        for (i, line) in text.split(|b| *b == b'\n').enumerate() {
+            self.add_line(line).map_err(|why| why.at(i + 1))?;
+        }
+        Ok(())
+    }
 }
 
 /// The file that the text writes.
@@ -62,15 +49,6 @@ pub fn read(heap: Global, text: &[u8]) -> Result<StyleFile, Fault>
     ensures { Reads (file_of text.now) result }
 {
     let mut file = StyleFile::new(heap);
-    let mut number = 0;
-    let mut rest = Some(text);
-    while let Some(lines) = rest {
-        let (line, behind) = split_line(lines);
-        number += 1;
-        match add_line(heap, &mut file, line)? {
-            Some(()) => rest = behind,
-            None => return Err(Fault::Line(number)),
-        }
-    }
+    file.add_lines(text)?;
     Ok(file)
 }

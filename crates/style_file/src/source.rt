@@ -1,11 +1,12 @@
 //! The style source that a style file is.
-ghost use Rattle.std.specs.Prelude.{◌≡◌, ◌≤◌};
+ghost use Rattle.std.specs.Prelude.{◌≡◌, ◌≤◌, slice_get};
 ghost use Rattle.style_file.specs.Said.{file_said};
-ghost use Rattle.style_file.specs.Sources.{base_mean, file_mean, slot_of, slots_from};
+ghost use Rattle.style_file.specs.Sources.{base_mean, file_mean, slots_from};
 
 use crate::base::Base;
 use crate::file::StyleFile;
-use parts::Spot;
+use page::node::Node;
+use std::array::from_fn;
 use style::house::{House, HouseRule};
 use style::mark::Marks;
 use style::rule::Rules;
@@ -15,23 +16,19 @@ use style::style::ComputedStyle;
 impl<'a> StyleSource for Base<'a> {
     ghost meaning = { base_mean };
 
-    fn style(&self, parent: ComputedStyle, page: &[u8], element: Spot) -> ComputedStyle {
+    fn style(&self, parent: ComputedStyle, element: Node<'_>) -> ComputedStyle {
         match self {
-            Base::Marks(marks) => marks.style(parent, page, element),
-            Base::Rules(rules) => rules.style(parent, page, element),
+            Base::Marks(marks) => marks.style(parent, element),
+            Base::Rules(rules) => rules.style(parent, element),
         }
     }
 }
 
 /// The declaration with that number, from 0, if there is one.
 fn slot(rules: &[HouseRule], i: usize) -> Option<HouseRule>
-    ensures { result ≡ slot_of rules.now i }
+    ensures { result ≡ slice_get rules.now i }
 {
-    if i < rules.len() {
-        Some(rules[i])
-    } else {
-        None
-    }
+    rules.get(i).copied()
 }
 
 /// Eight declarations from that one on, each in a slot of a House.
@@ -39,16 +36,7 @@ fn slots(rules: &[HouseRule], from: usize) -> [Option<HouseRule>; 8]
     requires { from ≤ 8 }
     ensures { result ≡ slots_from rules.now from }
 {
-    [
-        slot(rules, from),
-        slot(rules, from + 1),
-        slot(rules, from + 2),
-        slot(rules, from + 3),
-        slot(rules, from + 4),
-        slot(rules, from + 5),
-        slot(rules, from + 6),
-        slot(rules, from + 7),
-    ]
+    from_fn(|k| slot(rules, from + k))
 }
 
 impl StyleFile {

@@ -1,8 +1,9 @@
-//! Single words of a style file.
+//! Single words of a style file. Each function is a table of its own: the words are this format's, the values another crate's.
+#![tactic(auto, using(crate::proofs::Spelling::spelling))]
+
 ghost use Rattle.std.specs.Prelude.{◌≡◌};
 ghost use Rattle.std.specs.Option.{option_map};
-ghost use Rattle.std.specs.Str.{bytes_eq};
-ghost use Rattle.style_file.specs.Words.{tag_of, origin_of, bit_of, display_of, white_space_of, colour_of, nibble_of, byte_of, record_of, count_of, setting_of};
+ghost use Rattle.style_file.specs.Words.{tag_of, origin_of, bit_of, display_of, white_space_of, colour_of, nibble_of, byte_of, record_of, count_of, property_of, setting_of};
 ghost use Rattle.style_file.specs.Said.{said_setting};
 
 use crate::item::Setting;
@@ -12,84 +13,59 @@ use style::values::{Colour, Display, StyleOrigin, WhiteSpace};
 use text::integer::parse_integer;
 use text::superscript::is_digits;
 
-/// Whether the word is that one.
-pub(crate) fn is(word: &[u8], other: &[u8]) -> bool
-    ensures { result ≡ bytes_eq word.now other.now }
-{
-    word == other
-}
-
 pub(crate) fn tag_of(word: &[u8]) -> Option<Tag>
     ensures { result ≡ tag_of word.now }
 {
-    if is(word, b"name") {
-        return Some(Tag::Name);
+    match word {
+        b"name" => Some(Tag::Name),
+        b"class" => Some(Tag::Class),
+        b"id" => Some(Tag::Id),
+        _ => None,
     }
-    if is(word, b"class") {
-        return Some(Tag::Class);
-    }
-    if is(word, b"id") {
-        return Some(Tag::Id);
-    }
-    None
 }
 
 pub(crate) fn origin_of(word: &[u8]) -> Option<StyleOrigin>
     ensures { result ≡ origin_of word.now }
 {
-    if is(word, b"none") {
-        return Some(StyleOrigin::None);
+    match word {
+        b"none" => Some(StyleOrigin::None),
+        b"agent" => Some(StyleOrigin::Agent),
+        b"user" => Some(StyleOrigin::User),
+        b"author" => Some(StyleOrigin::Author),
+        _ => None,
     }
-    if is(word, b"agent") {
-        return Some(StyleOrigin::Agent);
-    }
-    if is(word, b"user") {
-        return Some(StyleOrigin::User);
-    }
-    if is(word, b"author") {
-        return Some(StyleOrigin::Author);
-    }
-    None
 }
 
 /// `0` for no, `1` for yes.
 pub(crate) fn bit_of(word: &[u8]) -> Option<bool>
     ensures { result ≡ bit_of word.now }
 {
-    if is(word, b"0") {
-        return Some(false);
+    match word {
+        b"0" => Some(false),
+        b"1" => Some(true),
+        _ => None,
     }
-    if is(word, b"1") {
-        return Some(true);
-    }
-    None
 }
 
 fn display_of(word: &[u8]) -> Option<Display>
     ensures { result ≡ display_of word.now }
 {
-    if is(word, b"none") {
-        return Some(Display::None);
+    match word {
+        b"none" => Some(Display::None),
+        b"shown" => Some(Display::Shown),
+        _ => None,
     }
-    if is(word, b"shown") {
-        return Some(Display::Shown);
-    }
-    None
 }
 
 fn white_space_of(word: &[u8]) -> Option<WhiteSpace>
     ensures { result ≡ white_space_of word.now }
 {
-    if is(word, b"normal") {
-        return Some(WhiteSpace::Normal);
+    match word {
+        b"normal" => Some(WhiteSpace::Normal),
+        b"pre" => Some(WhiteSpace::Pre),
+        b"prewrap" => Some(WhiteSpace::PreWrap),
+        _ => None,
     }
-    if is(word, b"pre") {
-        return Some(WhiteSpace::Pre);
-    }
-    if is(word, b"prewrap") {
-        return Some(WhiteSpace::PreWrap);
-    }
-    None
 }
 
 fn nibble_of(digit: u8) -> Option<u8>
@@ -142,27 +118,25 @@ pub(crate) fn count_of(word: &[u8]) -> Option<u16>
     u16::try_from(record_of(word)?).ok()
 }
 
+fn property_of(name: &[u8], value: &[u8]) -> Option<Property>
+    ensures { result ≡ property_of name.now value.now }
+{
+    match name {
+        b"colour" => colour_of(value).map(Property::Colour),
+        b"bg" => colour_of(value).map(Property::BgColour),
+        b"display" => display_of(value).map(Property::Display),
+        b"ws" => white_space_of(value).map(Property::WhiteSpace),
+        _ => None,
+    }
+}
+
 /// A property's name and its value.
 pub(crate) fn setting_of<'a>(property: &[u8], value: &'a [u8]) -> Option<Setting<'a>>
     ensures { option_map said_setting result ≡ setting_of property.now value.now }
 {
-    if is(property, b"colour") {
-        return Some(Setting::Plain(Property::Colour(colour_of(value)?)));
+    match property {
+        b"before" => Some(Setting::Before(value)),
+        b"after" => Some(Setting::After(value)),
+        _ => Some(Setting::Plain(property_of(property, value)?)),
     }
-    if is(property, b"bg") {
-        return Some(Setting::Plain(Property::BgColour(colour_of(value)?)));
-    }
-    if is(property, b"display") {
-        return Some(Setting::Plain(Property::Display(display_of(value)?)));
-    }
-    if is(property, b"ws") {
-        return Some(Setting::Plain(Property::WhiteSpace(white_space_of(value)?)));
-    }
-    if is(property, b"before") {
-        return Some(Setting::Before(value));
-    }
-    if is(property, b"after") {
-        return Some(Setting::After(value));
-    }
-    None
 }

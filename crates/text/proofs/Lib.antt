@@ -1,6 +1,6 @@
-pub mod Blank
 pub mod Octets
 pub mod Raised
 pub mod Reading
 pub mod Rfc
+pub mod Runs
 pub mod Splitting

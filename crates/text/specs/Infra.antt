@@ -1,7 +1,8 @@
 -- ASCII white space and the splitting of a text at it, as the Infra standard and HTML have them.
 use Rattle.std.specs.Prelude.{◌≡◌, ℕ, ◌<◌, Bool, true, false, cond, ◌||◌, List, [], ◌∷◌, ◌++◌, length, Some, None, Option, ◌==◌}
-use Rattle.std.specs.List.{AllByRecursion}
+use Rattle.std.specs.List.{AllByRecursion, list_any}
 use Rattle.std.specs.Str.{bytes_eq}
+use Rattle.text.specs.declared.words.WordIter.{WordIter}
 
 -- U+0009 TAB, U+000A LF, U+000C FF, U+000D CR or U+0020 SPACE
 abbrev pub ascii_white_space : ℕ → Bool
@@ -44,8 +45,7 @@ WordsAreRuns = (bs : List ℕ) → Splits bs (words bs) × ((ws : List (List ℕ
 
 -- the word is one of the words
 abbrev pub one_of : List ℕ → List (List ℕ) → Bool
-one_of w [] = false
-one_of w (v ∷ vs) = bytes_eq v w || one_of w vs
+one_of w vs = list_any (λ v. bytes_eq v w) vs
 
 -- ---- one word at a time
 
@@ -78,3 +78,7 @@ led (Some p) = p.0 ∷ words p.1
 
 abbrev pub FirstWordLeads : Type 0
 FirstWordLeads = (bs : List ℕ) → words bs ≡ led (first_word bs)
+
+-- the words that an iterator over a text's words has left
+abbrev pub words_left : WordIter → List (List ℕ)
+words_left s = words s.rest.now

@@ -1,5 +1,6 @@
 -- White_Space as PropList.txt of the Unicode Character Database lists it.
-use Rattle.std.specs.Prelude.{ℕ, Bool, true, ◌&&◌, ◌||◌, List, [], ◌∷◌, ◌==◌, nat_le}
+use Rattle.std.specs.Prelude.{ℕ, Bool, ◌&&◌, ◌||◌, List, ◌==◌, nat_le}
+use Rattle.std.specs.List.{list_all}
 use Rattle.std.specs.Str.{chars}
 
 -- a line LOW..HIGH of the file
@@ -21,11 +22,6 @@ white_space c =
     || c == 0x205F
     || c == 0x3000
 
--- each of the code points has the property
-abbrev pub all_white_space : List ℕ → Bool
-all_white_space [] = true
-all_white_space (c ∷ cs) = white_space c && all_white_space cs
-
 -- each character of the text has the property, so an empty text is blank
 abbrev pub blank : List ℕ → Bool
-blank bytes = all_white_space (chars bytes)
+blank bytes = list_all white_space (chars bytes)

@@ -1,14 +1,14 @@
 -- The superscripts of decimal digits, as the Unicode Character Database names them.
-use Rattle.std.specs.Prelude.{ℕ, ◌+◌, ◌-◌, Bool, true, cond, ◌&&◌, List, [], ◌∷◌, ◌++◌, map, length, drop, Ok, Err, Result, ◌==◌, nat_le}
+use Rattle.std.specs.Prelude.{ℕ, ◌+◌, ◌-◌, Bool, cond, if◌then◌else◌, ◌&&◌, List, [], ◌++◌, map, length, drop, Ok, Err, Result, ◌==◌, nat_le}
+use Rattle.std.specs.List.{list_all}
 use Rattle.text.specs.HtmlIntegers.{digit}
-use Rattle.text.specs.Rfc3629.{encoding}
+use Rattle.text.specs.Rfc3629.{encoded, encoding}
 use Rattle.text.specs.declared.superscript.NotWritten.{NotWritten}
 use Rattle.text.specs.declared.superscript.NotWritten.TheVariants.{NotDigits, NoRoom}
 
 -- ASCII digits only, or nothing
 abbrev pub all_digits : List ℕ → Bool
-all_digits [] = true
-all_digits (b ∷ bs) = digit b && all_digits bs
+all_digits bs = list_all digit bs
 
 -- of an ASCII digit: SUPERSCRIPT ONE, TWO and THREE are U+00B9, U+00B2 and U+00B3,
 -- SUPERSCRIPT ZERO is U+2070, and SUPERSCRIPT FOUR to NINE are U+2074 to U+2079
@@ -18,6 +18,10 @@ superscript b =
     (cond (b == 0x32) 0x00B2
     (cond (b == 0x33) 0x00B3
     (0x2070 + (b - 0x30))))
+
+-- the superscript of a digit as UTF-8, and nothing of another byte
+abbrev pub superscript_text : ℕ → List ℕ
+superscript_text b = if digit b then encoded (superscript b) else []
 
 -- the superscripts as UTF-8
 abbrev pub superscript_bytes : List ℕ → List ℕ

@@ -1,6 +1,7 @@
 //! Integers by HTML's rules for parsing integers.
-ghost use Rattle.std.specs.Prelude.{◌≡◌, pos, neg_ℤ, Some};
-ghost use Rattle.text.specs.HtmlIntegers.{magnitude, integer, in_i64, in_u64};
+ghost use Rattle.std.specs.Prelude.{◌≡◌};
+ghost use Rattle.std.specs.Option.{option_map};
+ghost use Rattle.text.specs.HtmlIntegers.{signed, digits, magnitude, with_sign, integer, in_i64, in_u64};
 
 use crate::words::skip_white_space;
 
@@ -8,10 +9,19 @@ use crate::words::skip_white_space;
 pub fn parse_integer(text: &[u8]) -> Option<i64>
     ensures { result ≡ in_i64 (integer text.now) }
 {
-    match skip_white_space(text) {
-        [b'-', rest @ ..] => negative(read_digits(rest)?),
-        [b'+', rest @ ..] => positive(read_digits(rest)?),
-        rest => positive(read_digits(rest)?),
+    let (negative, digits) = split_sign(skip_white_space(text));
+    let size = i128::from(read_digits(digits)?);
+    i64::try_from(if negative { -size } else { size }).ok()
+}
+
+/// Whether the text begins with a minus, and the text without its sign, if it has one.
+fn split_sign(text: &[u8]) -> (bool, &[u8])
+    ensures { with_sign text.now ≡ option_map (signed result.0) (magnitude result.1.now) }
+{
+    match text {
+        [b'-', rest @ ..] => (true, rest),
+        [b'+', rest @ ..] => (false, rest),
+        _ => (false, text),
     }
 }
 
@@ -19,32 +29,17 @@ pub fn parse_integer(text: &[u8]) -> Option<i64>
 fn read_digits(text: &[u8]) -> Option<u64>
     ensures { result ≡ in_u64 (magnitude text.now) }
 {
-    let [first, ..] = text else {
-        return None;
-    };
-    if !first.is_ascii_digit() {
-        return None;
-    }
-    let mut value: u64 = 0;
-    for b in text {
-        if !b.is_ascii_digit() {
-            return Some(value);
-        }
-        value = value.checked_mul(10)?.checked_add(u64::from(*b - b'0'))?;
-    }
-    Some(value)
+    let digits = std::str::from_utf8(leading_digits(text)).ok()?;
+    digits.parse().ok()
 }
 
-/// The integer of that size, where it is in the range.
-fn positive(size: u64) -> Option<i64>
-    ensures { result ≡ in_i64 (Some (pos size)) }
+/// The ASCII digits that the text begins with.
+fn leading_digits(text: &[u8]) -> &[u8]
+    ensures { result.now ≡ digits text.now }
 {
-    i64::try_from(size).ok()
-}
-
-/// The integer of that size below zero, where it is in the range.
-fn negative(size: u64) -> Option<i64>
-    ensures { result ≡ in_i64 (Some (neg_ℤ (pos size))) }
-{
-    i64::try_from(-i128::from(size)).ok()
+    let end = text
+        .iter()
+        .position(|b| !b.is_ascii_digit())
+        .unwrap_or(text.len());
+    &text[..end]
 }

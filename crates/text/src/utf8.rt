@@ -9,13 +9,11 @@ use std::str::Utf8Error;
 pub fn from_utf8(bytes: &[u8]) -> Option<&str>
     ensures { option_map (λ x. x.now) result ≡ (if octets bytes.now then Some bytes.now else None) }
 {
-    match decode(bytes) {
-        Ok(text) => Some(text),
-        Err(_) => None,
-    }
+    decode(bytes).ok()
 }
 
 /// The library's decoder takes exactly the grammar's bytes.
+#[tactic(auto, using(crate::proofs::Rfc::to_table, crate::proofs::Rfc::from_table))]
 fn decode(bytes: &[u8]) -> Result<&str, Utf8Error>
     ensures { MatchResult result (λ t. (t.now ≡ bytes.now) × (octets bytes.now ≡ true)) (λ _. octets bytes.now ≡ false) }
 {
@@ -23,15 +21,13 @@ fn decode(bytes: &[u8]) -> Result<&str, Utf8Error>
 }
 
 /// The grammar of section 4 accepts exactly the encodings of section 3.
-pub fn grammar_is_encoding() -> bool
+#[tactic(auto, using(crate::proofs::Rfc::grammar_is_encoding))]
+pub fn grammar_is_encoding()
     ensures { GrammarIsEncoding }
-{
-    true
-}
+{}
 
 /// The characters of a text are the code points that it encodes.
-pub fn characters_are_code_points() -> bool
+#[tactic(auto, using(crate::proofs::Rfc::characters_are_code_points))]
+pub fn characters_are_code_points()
     ensures { CharactersAreCodePoints }
-{
-    true
-}
+{}

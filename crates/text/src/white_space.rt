@@ -26,12 +26,7 @@ pub fn is_white_space(c: char) -> bool
 pub fn is_blank(text: &str) -> bool
     ensures { result ≡ blank text.now }
 {
-    for c in text.chars() {
-        if !is_white_space(c) {
-            return false;
-        }
-    }
-    true
+    text.chars().all(is_white_space)
 }
 
 /// Whether the text has a character that is no white space.

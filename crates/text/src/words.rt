@@ -1,7 +1,8 @@
 //! ASCII white space, and the words of a text that is split at it, by the Infra standard and HTML.
-ghost use Rattle.std.specs.Prelude.{◌≡◌, ◌≤◌, length, take, drop};
+ghost use Rattle.std.specs.Prelude.{◌≡◌};
+ghost use Rattle.std.specs.Iterator.{YieldsFirstRef, item_count};
 ghost use Rattle.std.specs.Option.{option_map};
-ghost use Rattle.text.specs.Infra.{ascii_white_space, words, skipped, collected, left, first_word, one_of, WordsAreRuns, FirstWordLeads};
+ghost use Rattle.text.specs.Infra.{ascii_white_space, words, skipped, first_word, one_of, words_left, WordsAreRuns, FirstWordLeads};
 
 /// Whether the byte is ASCII white space: TAB, LF, FF, CR or SPACE.
 pub fn is_ascii_white_space(b: u8) -> bool
@@ -14,8 +15,7 @@ pub fn is_ascii_white_space(b: u8) -> bool
 pub fn skip_white_space(text: &[u8]) -> &[u8]
     ensures { result.now ≡ skipped text.now }
 {
-    let (_, rest) = text.split_at(white_space_length(text));
-    rest
+    text.trim_ascii_start()
 }
 
 /// The first word and what follows it, where the text has a word.
@@ -24,9 +24,40 @@ pub fn next_word(text: &[u8]) -> Option<(&[u8], &[u8])>
 {
     let rest = skip_white_space(text);
     if rest.is_empty() {
-        None
-    } else {
-        Some(rest.split_at(word_length(rest)))
+        return None;
+    }
+    let end = rest
+        .iter()
+        .position(|b| is_ascii_white_space(*b))
+        .unwrap_or(rest.len());
+    Some(rest.split_at(end))
+}
+
+/// The words of a text that are left, in order.
+#[derive(Drop)]
+pub struct WordIter<'a> {
+    rest: &'a [u8],
+}
+
+/// The words of the text, in order.
+pub fn words(text: &[u8]) -> WordIter<'_>
+    ensures { words_left result ≡ words text.now }
+{
+    WordIter { rest: text }
+}
+
+impl<'a> Iterator for WordIter<'a> {
+    type Item = &'a [u8];
+
+    ghost next_gives = { YieldsFirstRef words_left };
+
+    ghost remaining = { item_count words_left };
+
+    #[tactic(auto, using(crate::proofs::Splitting::words_from_some, crate::proofs::Splitting::words_from_none))]
+    fn next(&mut self) -> Option<&'a [u8]> {
+        let (word, after) = next_word(self.rest)?;
+        self.rest = after;
+        Some(word)
     }
 }
 
@@ -34,53 +65,16 @@ pub fn next_word(text: &[u8]) -> Option<(&[u8], &[u8])>
 pub fn has_word(text: &[u8], word: &[u8]) -> bool
     ensures { result ≡ one_of word.now (words text.now) }
 {
-    let mut rest = text;
-    while let Some((next, after)) = next_word(rest) {
-        if next == word {
-            return true;
-        }
-        rest = after;
-    }
-    false
-}
-
-/// How many bytes of ASCII white space the text begins with.
-fn white_space_length(text: &[u8]) -> usize
-    ensures within { result ≤ length text.now }
-    ensures rest { drop result text.now ≡ skipped text.now }
-{
-    for (i, b) in text.iter().enumerate() {
-        if !is_ascii_white_space(*b) {
-            return i;
-        }
-    }
-    text.len()
-}
-
-/// How many bytes stand before the first ASCII white space.
-fn word_length(text: &[u8]) -> usize
-    ensures within { result ≤ length text.now }
-    ensures word { take result text.now ≡ collected text.now }
-    ensures rest { drop result text.now ≡ left text.now }
-{
-    for (i, b) in text.iter().enumerate() {
-        if is_ascii_white_space(*b) {
-            return i;
-        }
-    }
-    text.len()
+    words(text).any(|next| next == word)
 }
 
 /// A text splits into its words, and into no others.
-pub fn words_are_runs() -> bool
+pub fn words_are_runs()
     ensures { WordsAreRuns }
-{
-    true
-}
+{}
 
 /// The words of a text are its first word, as `next_word` has it, and the words of what follows.
-pub fn first_word_leads() -> bool
+#[tactic(auto, using(crate::proofs::Splitting::first_word_leads))]
+pub fn first_word_leads()
     ensures { FirstWordLeads }
-{
-    true
-}
+{}

@@ -1,30 +1,42 @@
-use Rattle.std.proofs.Common.{◌≡◌, ◌+◌, [], ◌∷◌, ◌++◌, string_bytes, sym, ap, ◌∙◌, append_assoc, append-nil, arith}
-use Rattle.std.proofs.lemmas.List.{nil_from_length}
-use Rattle.dom.specs.Shown.{shown}
-use Rattle.bench.specs.Lines.{line, lines}
-use Rattle.bench.proofs.Records.{turn, no_refusal}
+use Rattle.std.proofs.Common.{suc, ◌++◌, string_bytes, sym, refl, ap, ◌∙◌, append_assoc, append-nil, subst, arith}
+use Rattle.dom.specs.Reading.{entries}
+use Rattle.dom.proofs.Records.{entries_hold}
+use Rattle.page.specs.Said.{front_said, fronts_said}
+use Rattle.bench.specs.Lines.{lines}
+use Rattle.bench.proofs.Records.{Stand, first, none_left, the_entries, no_refusal, lined}
 use Rattle.bench.proofs.listing.write_records.Goals as goal
+
+pub loop-front-init : goal.loop-front-init
+loop-front-init c es h =
+    let r = c.records-front-items.ensures.read es (entries_hold c.args.page.now es (λ i. omega (arith, c.type_inv.page i)) h) in
+    (0, 0, es, subst (λ s. Stand (fronts_said s) 0 0 es) (sym c.into_iter-front-iterator.ensures.into_iter_gives) r, refl)
 
 pub unreachable-requires : goal.unreachable-requires
 unreachable-requires c =
-    let i = c.loop-number.invariant in
-    no_refusal c.args.page.now c.loop-number.place c.loop-number.number c.args.count i.0 c.loop-number-test.true i.2 i.5 i.4 c.in_default.field-0 c.in_default.ensures.answer
+    let e = the_entries (entries c.args.page.now) c.requires in
+    let i = c.loop-front.invariant e.0 e.1 in
+    let stand = subst (λ fs. Stand fs i.0 i.1 i.2) c.in-Some.ensures.steps i.3 in
+    no_refusal (front_said c.in-Some.front) (fronts_said c.next.new.self) i.0 i.1 _ i.2 stand c.in_default.field-0 c.in_default.ensures
 
-pub loop-number-preserved : goal.loop-number-preserved
-loop-number-preserved c =
-    let i = c.loop-number.invariant in
-    let n = c.loop-number.number in
-    let f = c.in-Ok.found in
-    let t = turn c.args.page.now c.loop-number.place n c.args.count i.0 c.loop-number-test.true i.2 i.5 i.4 f c.in-Ok.ensures.answer in
-    let out = string_bytes c.loop-number.out in
-    let here = line n f.depth (shown f.record) in
-    let after = lines (n + 1) t.left in
-    (t.passed ∷ i.0, i.1, t.left, i.3, t.reads, t.few, ap (λ xs. xs ++ after) c.in_ok-write_line.ensures ∙ append_assoc out here after ∙ ap (λ xs. out ++ xs) (sym t.lined) ∙ i.6)
+pub loop-front-preserved : goal.loop-front-preserved
+loop-front-preserved c es h =
+    let i = c.loop-front.invariant es h in
+    let stand = subst (λ fs. Stand fs i.0 i.1 i.2) c.in-Some.ensures.steps i.3 in
+    let f = front_said c.in-Some.front in
+    let fs = fronts_said c.next.new.self in
+    let head = first f fs i.0 i.1 i.2 stand in
+    let l = lined f fs i.0 i.1 _ i.2 stand c.in-Ok.found c.in-Ok.ensures in
+    let text = string_bytes c.loop-front.out in (
+      suc i.0,
+      _,
+      head.later,
+      head.others,
+      ap (λ b. b ++ lines (suc i.0) head.later) c.in_ok-write.ensures.bytes ∙ append_assoc text _ _ ∙ ap (λ b. text ++ b) (sym l) ∙ i.4,
+    )
 
 pub returns : goal.returns
 returns c es h =
-    let i = c.loop-number.invariant in
-    let none : i.2 ≡ [] = nil_from_length i.2 (omega arith) in
-    let same : i.1 ≡ es = cc in
-    let out = string_bytes c.loop-number.out in
-    sym (append-nil out) ∙ ap (λ xs. out ++ lines c.loop-number.number xs) (sym none) ∙ i.6 ∙ ap (λ xs. string_bytes c.args.out.now ++ lines 0 xs) same
+    let i = c.loop-front.invariant es h in
+    let text = string_bytes c.loop-front.out in
+    let none = none_left i.0 i.1 i.2 (subst (λ fs. Stand fs i.0 i.1 i.2) c.in-None.ensures.steps.0 i.3) in
+    sym (append-nil text) ∙ ap (λ rest. text ++ lines i.0 rest) (sym none) ∙ i.4

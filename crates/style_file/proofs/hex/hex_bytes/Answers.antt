@@ -1,12 +1,23 @@
-use Rattle.std.proofs.Common.{◌-◌, ◌++◌, length, take, drop, vec_items, ap, ◌∙◌, arith, ltb-false, ltb-true}
-use Rattle.std.specs.Option.{option_map}
-use Rattle.style_file.specs.Words.{hex_bytes}
-use Rattle.style_file.proofs.Digits.{hex_step}
+use Rattle.std.proofs.Common.{◌+◌, ◌/◌, length, drop, vec_items, ap, ◌∙◌, arith, rules}
+use Rattle.std.proofs.lemmas.Iterator.Adapters.{option_map_id}
+use Rattle.style_file.proofs.Digits.{pairs_read, read_behind, by_pairs, one_over, byte_read}
 use Rattle.style_file.proofs.hex.hex_bytes.Goals as goal
 
-pub loop-rest-preserved : goal.loop-rest-preserved
-loop-rest-preserved c =
-    let rest = c.loop-rest.rest.now in
-    ap (λ done. option_map (λ xs. done ++ xs) (hex_bytes (take (length rest - 2) (drop 2 rest)))) c.in_ok-push.ensures.items
-    ∙ hex_step (vec_items c.loop-rest.bytes) c.loop-rest.rest.now c.in-Some.byte (omega (arith, ltb-true, ltb-false)) c.in-Some.ensures
-    ∙ c.loop-rest.invariant
+pub returns-then-not-is_empty : goal.returns-then-not-is_empty
+returns-then-not-is_empty c = λ _. let w = c.args.word.now in one_over (length w / 2) w (grind (arith, c.as_chunks.ensures.back_len))
+
+pub loop-high-init : goal.loop-high-init
+loop-high-init c =
+    let w = c.args.word.now in
+    ap (λ done. read_behind done c.as_chunks.result.0.now) c.new-bytes.ensures.items
+    ∙ option_map_id (pairs_read c.as_chunks.result.0.now)
+    ∙ ap pairs_read c.as_chunks.ensures.front
+    ∙ by_pairs (length w / 2) w (grind (arith, c.as_chunks.ensures.back_len))
+
+pub loop-high-preserved : goal.loop-high-preserved
+loop-high-preserved c =
+    let ps = c.as_chunks.result.0.now in
+    let i = c.loop-high.high-index in
+    ap (λ done. read_behind done (drop (i + 1) ps)) c.in_ok-push.ensures.items
+    ∙ byte_read ps i (vec_items c.loop-high.bytes) c.in_ok-ok_or.field-0 c.loop-high-test.true (search rules)
+    ∙ c.loop-high.invariant

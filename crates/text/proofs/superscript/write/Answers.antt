@@ -1,44 +1,60 @@
-use Rattle.std.proofs.Common.{◌+◌, ◌-◌, ◌++◌, length, take, drop, sym, ap, ◌∙◌, arith, rules}
-use borrow.Rule.Slice.PartMut.{put_mid}
-use Rattle.text.specs.Superscripts.{superscript_bytes}
-use Rattle.text.proofs.Raised.{digit_at, bytes_more, bytes_all, length_more, length_upto, put_more}
+use Rattle.std.proofs.Common.{◌≡◌, ℕ, ◌+◌, ◌<◌, ◌^◌, List, Option, ◌++◌, length, get_or, set, take, drop, ap, sym, subst, ◌∙◌, refl, inr, ◌⊎◌, rules, arith}
+use Rattle.std.specs.Iterator.{Yields}
+use Rattle.std.specs.Iterator.Adapters.{enumerate_source, enumerate_count, enumerate_steps}
+use Rattle.std.specs.Iterator.Runs.{EachRunFrom, Trigger, YieldsRun}
+use Rattle.std.specs.List.{enumerate_from, flat_map}
+use Rattle.std.proofs.lemmas.Grind.{common_steps}
+use Rattle.std.proofs.lemmas.Iterator.{YieldsList, YieldsList-from_slice}
+use Rattle.std.proofs.lemmas.Iterator.Adapters.{YieldsList-from_flat_map, YieldsList-from_bytes, at_most_from_yields_List}
+use Rattle.std.proofs.lemmas.Iterator.Consumers.{YieldsList-from_enumerate, YieldsList-turn, YieldsList-end}
+use Rattle.std.proofs.lemmas.List.{length_push, take_all, take-append-drop}
+use Rattle.std.proofs.lemmas.List.FromFn.{length-enumerate_from, get_or-enumerate_from}
+use Rattle.std.specs.declared.iter.Enumerate.{Enumerate}
+use Rattle.text.specs.Superscripts.{superscript_text}
+use Rattle.text.proofs.Raised.{bytes_are}
 use Rattle.text.proofs.superscript.write.Goals as goal
 
-pub superscript_of-bytes-requires : goal.superscript_of-bytes-requires
-superscript_of-bytes-requires c = digit_at c.args.text.now c.loop-b.b-index c.requires.digits c.loop-b-test.true
+-- an `enumerate` may begin where all its items can be counted
+starts : {S A : Type 0} {steps : S → Option A → S → Type 0} {C F L T D : Type 0} (s : Enumerate S) (all : List A) → YieldsList steps (λ x. x) (enumerate_source s) all → enumerate_count s ≡ 0 → length all < 2 ^ 64 → C → F → T → D → (C × F × (L ⊎ EachRunFrom steps (enumerate_source s) (λ p. Trigger (2 ^ 64) → enumerate_count s + p.len < 2 ^ 64))) × F × YieldsList {B = ℕ × A} (enumerate_steps steps) (λ p. p) s (enumerate_from 0 all) × T × D
+unfolding YieldsRun
+starts {steps = steps} s all road z l can fin front rest =
+    let h = at_most_from_yields_List {n = length all} road (omega arith) in
+    ((can, fin, inr (λ p _ e _. let n = h.runs p.items p.gave.0.0 (subst (λ f. Yields steps f p.items p.gave.0.0) e p.gave.0.1) in omega (arith, p.long))), fin, YieldsList-from_enumerate road z, front, rest)
 
-pub overflow_add-end : goal.overflow_add-end
-overflow_add-end c =
-    let upto = length_upto c.args.text.now c.loop-b.b-index (length c.superscript_of-bytes.result.now) c.loop-b-test.true (ap length c.superscript_of-bytes.ensures) in
-    search rules
+turn_is : (all : List ℕ) (n i b : ℕ) → (n < length (enumerate_from 0 all)) × ((i, b) ≡ get_or (enumerate_from 0 all) n (i, b)) → (n < length all) × (i ≡ n) × (b ≡ get_or all n b)
+turn_is all n i b t =
+    let l : n < length all = omega (arith, length-enumerate_from 0 all) in
+    let e = t.1 ∙ get_or-enumerate_from 0 all n (i, b) l in
+    let first : i ≡ 0 + n = λ k. (e k).0 in
+    (l, omega arith, (λ k. (e k).1))
 
-pub slice_bounds-copy_from_slice-end : goal.slice_bounds-copy_from_slice-end
-slice_bounds-copy_from_slice-end c =
-    let upto = length_upto c.args.text.now c.loop-b.b-index (length c.superscript_of-bytes.result.now) c.loop-b-test.true (ap length c.superscript_of-bytes.ensures) in
-    search rules
+put_next : (all held out : List ℕ) (n m i b : ℕ) → take n out ≡ take n all → drop n out ≡ drop n held → n < length all → n < length out → i ≡ n → b ≡ get_or all n b → m ≡ n + 1 → (take m (set out i b) ≡ take m all) × (drop m (set out i b) ≡ drop m held)
+put_next all held out n m i b e f l k j g z = (grind (arith, common_steps), grind (arith, common_steps))
 
-pub loop-b-preserved : goal.loop-b-preserved
-loop-b-preserved c =
-    let ds = c.args.text.now in
-    let i = c.loop-b.b-index in
-    let bytes = c.superscript_of-bytes.result.now in
-    let e = c.superscript_of-bytes.ensures in
-    let front = superscript_bytes (take i ds) in
-    let more = length_more ds i (length bytes) c.loop-b-test.true (ap length e) in
-    let upto = length_upto ds i (length bytes) c.loop-b-test.true (ap length e) in
-    let end = c.loop-b.at + length bytes in
-    let put = put_more front bytes c.args.out.now c.loop-b.out c.loop-b.at (end - c.loop-b.at) end (sym c.loop-b.invariant.0) (omega arith) (omega arith) c.loop-b.invariant.1 (omega (arith, c.requires.room)) in (
-      omega arith,
-      ap (put_mid c.loop-b.at (end - c.loop-b.at) c.loop-b.out) c.copy_from_slice.ensures.after
-          ∙ put
-          ∙ ap (λ t. t ++ drop end c.args.out.now) (ap (λ b. front ++ b) e ∙ sym (bytes_more ds i c.loop-b-test.true)),
-    )
+put_all : (all bytes held out : List ℕ) (n : ℕ) → n ≡ length (enumerate_from 0 all) → bytes ≡ all → take n out ≡ take n all → drop n out ≡ drop n held → out ≡ bytes ++ drop (length bytes) held
+put_all all bytes held out n z is e f =
+    let l : n ≡ length bytes = omega (arith, length-enumerate_from 0 all, ap length is) in
+    sym (take-append-drop n out) ∙ (λ i. (e ∙ take_all n all (omega (arith, ap length is)) ∙ sym is) i ++ f i) ∙ ap (λ k. bytes ++ drop k held) l
+
+pub loop-i-init : goal.loop-i-init
+loop-i-init c = starts _ (flat_map superscript_text c.args.text.now)
+    (YieldsList-from_flat_map _ _ _ (λ x. x) superscript_text _ (λ x u q k. (search rules, λ j b. YieldsList-from_bytes (superscript_text x.now) (search rules))) (YieldsList-from_slice c.args.text.now (search rules)) (search rules) (search rules) (search rules) (search rules))
+    (search rules) (omega (arith, ap length (bytes_are c.args.text.now c.requires.digits), c.requires.room))
+    (((λ d. ((tt, record { at = λ xs t q x u y fo st. tt }), record { at = λ xs t q x u y fo st. λ j b. (tt, tt, (let k : length j.rest.now < 2 ^ 64 = search rules in k)) })), tt, search rules), search rules) tt
+    refl refl
+
+pub bounds-out-i : goal.bounds-out-i
+bounds-out-i c =
+    let t = turn_is _ _ _ _ (YieldsList-turn c.loop-i.invariant.2 c.loop-i.yielded _ c.loop-i.yielded_by _ _ (c.in-Some.i, c.in-Some.byte) c.in-Some.is c.next.ensures.steps) in
+    omega (arith, ap length (bytes_are c.args.text.now c.requires.digits), c.requires.room)
+
+pub loop-i-preserved : goal.loop-i-preserved
+loop-i-preserved c =
+    let t = turn_is _ _ _ _ (YieldsList-turn c.loop-i.invariant.2 c.loop-i.yielded _ c.loop-i.yielded_by _ _ (c.in-Some.i, c.in-Some.byte) c.in-Some.is c.next.ensures.steps) in
+    let put = put_next _ _ c.loop-i.out _ _ c.in-Some.i c.in-Some.byte c.loop-i.invariant.3 c.loop-i.invariant.4 t.0 (omega (arith, ap length (bytes_are c.args.text.now c.requires.digits), c.requires.room)) t.1 t.2 (length_push c.loop-i.yielded (c.in-Some.i, c.in-Some.byte)) in
+    (c.in-Some.ensures.goes.keeps, tt, c.loop-i.invariant.2, put.0, put.1)
 
 pub returns : goal.returns
 returns c =
-    let all = bytes_all c.args.text.now c.loop-b.b-index c.loop-b-test.false in
-    let count = c.loop-b.invariant.0 ∙ ap length all in
-    record {
-      count = count;
-      after = c.loop-b.invariant.1 ∙ (λ i. all i ++ drop (count i) c.args.out.now);
-    }
+    let t = YieldsList-end c.loop-i.invariant.2 c.loop-i.yielded _ c.loop-i.yielded_by _ _ c.in-None.is c.next.ensures.steps in
+    put_all _ _ _ _ _ t.1 (bytes_are c.args.text.now c.requires.digits) c.loop-i.invariant.3 c.loop-i.invariant.4

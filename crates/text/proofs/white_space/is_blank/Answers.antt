@@ -1,27 +1,11 @@
-use Rattle.std.proofs.Common.{sym, ◌∙◌}
-use Rattle.std.specs.Str.Iter.{chars_rest}
-use Rattle.std.proofs.lemmas.Str.{IsUtf8-past_char}
-use Rattle.text.proofs.Blank.{blank_nil, blank_past_white, blank_past_other}
+use Rattle.std.proofs.Common.{rules}
+use borrow.Author.Tests.{tests}
+use Rattle.std.proofs.lemmas.Iterator.{YieldsList-from_chars}
+use Rattle.std.proofs.lemmas.Iterator.Search.{all_from_yields_List}
+use Rattle.text.specs.PropList.{white_space}
 use Rattle.text.proofs.white_space.is_blank.Goals as goal
 
 pub returns : goal.returns
-returns c = sym (blank_nil (chars_rest c.loop-c.c-iterator) c.in-None.ensures.steps.0.0) ∙ c.loop-c.invariant.3
-
-pub loop-c-preserved : goal.loop-c-preserved
-loop-c-preserved c =
-    let bs = chars_rest c.loop-c.c-iterator in
-    let rest = chars_rest c.next.new.self in
-    let e = c.in-Some.ensures.steps.0 in
-    let w = sym c.is_white_space.ensures ∙ c.if-not-is_white_space.false in (
-      tt,
-      tt,
-      IsUtf8-past_char bs rest c.in-Some.c c.loop-c.invariant.2 e,
-      sym (blank_past_white bs rest c.in-Some.c c.loop-c.invariant.2 e w) ∙ c.loop-c.invariant.3,
-    )
-
-pub returns-then-not-is_white_space : goal.returns-then-not-is_white_space
-returns-then-not-is_white_space c =
-    let bs = chars_rest c.loop-c.c-iterator in
-    let rest = chars_rest c.next.new.self in
-    let w = sym c.is_white_space.ensures ∙ c.if-not-is_white_space.true in
-    sym (blank_past_other bs rest c.in-Some.c c.loop-c.invariant.2 c.in-Some.ensures.steps.0 w) ∙ c.loop-c.invariant.3
+returns c =
+    all_from_yields_List white_space _ _ _ c.all.ensures.ran
+    (YieldsList-from_chars c.args.text.now c.utf8.text cc) (λ x b q k. search (rules, tests))

@@ -1,24 +1,12 @@
-use Rattle.std.proofs.Common.{sym, ap, ◌∙◌}
-use Rattle.std.proofs.lemmas.Slice.Eq.{slice_eq-Decides}
-use Rattle.text.specs.Infra.{one_of}
-use Rattle.text.proofs.Splitting.{one_of_here, one_of_later, words_from_none, rest_shorter}
+use Rattle.std.proofs.Common.{rules}
+use borrow.Author.Tests.{tests}
+use Rattle.std.specs.Str.{bytes_eq}
+use Rattle.std.proofs.lemmas.Iterator.Consumers.{YieldsList-from_first}
+use Rattle.std.proofs.lemmas.Iterator.Search.{any_from_yields_List}
+use Rattle.text.specs.Infra.{words, words_left}
 use Rattle.text.proofs.words.has_word.Goals as goal
-use Rattle.std.proofs.lemmas.Bool.Decides.{Decides-eqb}
-
-pub returns-then-eq : goal.returns-then-eq
-returns-then-eq c =
-    one_of_here c.loop-next.rest.now c.in-Some.next.now c.in-Some.after.now c.args.word.now c.eq.result
-    c.in-Some.ensures (slice_eq-Decides Decides-eqb _ _ _ c.eq.ensures) c.if-eq.true
-    ∙ c.loop-next.invariant
-
-pub loop-next-smaller : goal.loop-next-smaller
-loop-next-smaller c = rest_shorter c.loop-next.rest.now (c.in-Some.next.now, c.in-Some.after.now) c.in-Some.ensures
-
-pub loop-next-preserved : goal.loop-next-preserved
-loop-next-preserved c =
-    one_of_later c.loop-next.rest.now c.in-Some.next.now c.in-Some.after.now c.args.word.now c.eq.result
-    c.in-Some.ensures (slice_eq-Decides Decides-eqb _ _ _ c.eq.ensures) c.if-eq.false
-    ∙ c.loop-next.invariant
 
 pub returns : goal.returns
-returns c = sym (ap (one_of c.args.word.now) (words_from_none c.loop-next.rest.now c.in_default.ensures)) ∙ c.loop-next.invariant
+returns c =
+    any_from_yields_List (λ v. bytes_eq v c.args.word.now) c.any.new.self _ _ c.any.ensures.ran
+    (YieldsList-from_first (λ x. x.now) words_left (words c.args.text.now) c.words.ensures) (λ x b q k. search (rules, tests))

@@ -1,0 +1,34 @@
+-- The cells of a style, one after another. Assumes nothing.
+use Rattle.std.proofs.Common.{◌≡◌, ℕ, suc, ◌+◌, ◌<◌, ◌≤◌, Bool, true, false, cond, ◌||◌, List, [], ◌++◌, length, map, get_or, drop, is_some, Some, codes, sym, refl, ap, ◌∙◌, append_assoc, add-one, drop-cons}
+use Rattle.std.specs.Option.{option_map}
+use Rattle.std.proofs.lemmas.List.{drop_all}
+use Rattle.bench.specs.declared.cells.Cell.{Cell as Named}
+use Rattle.bench.specs.declared.cells.Value.{Value}
+use Rattle.bench.specs.Cells.{weight_text, cell_text, cells_text}
+use Rattle.bench.specs.Values.{value_text, as_cell}
+
+or_true : (any : Bool) → (any || true) ≡ true
+or_true true = refl
+or_true false = refl
+
+-- told says what is written up to a place, and what is still to come
+module _ (any : Bool) (cs : List Named) (i : ℕ) (text all : List ℕ) (told : text ++ cells_text any (map as_cell (drop i cs)) ≡ all) where
+  -- a cell that has a value is added
+  pub one_more : (d : Named) (v : Value) (comma : List ℕ) → i < length cs → (get_or cs i d).value ≡ Some v → comma ≡ cond any (codes ",") []
+      → (text ++ (comma ++ ((get_or cs i d).name.now ++ (codes "=" ++ (value_text v ++ weight_text (get_or cs i d).weight))))) ++ cells_text true (map as_cell (drop (i + 1) cs)) ≡ all
+  one_more d v comma l h e =
+      let c = get_or cs i d in
+      let after = map as_cell (drop (suc i) cs) in
+      let name = c.name.now in
+      let here = name ++ (codes "=" ++ (value_text v ++ weight_text c.weight)) in
+      ap (λ n. (text ++ (comma ++ here)) ++ cells_text true (map as_cell (drop n cs))) (add-one i)
+      ∙ append_assoc text (comma ++ here) (cells_text true after)
+      ∙ ap (λ xs. text ++ ((xs ++ here) ++ cells_text true after)) e
+      ∙ ap (λ b. text ++ (cell_text any name (Some (value_text v)) c.weight ++ cells_text b after)) (sym (or_true any))
+      ∙ ap (λ x. text ++ (cell_text any name (option_map value_text x) c.weight ++ cells_text (any || is_some (option_map value_text x)) after)) (sym h)
+      ∙ ap (λ xs. text ++ cells_text any (map as_cell xs)) (sym (drop-cons cs i d l))
+      ∙ told
+
+  -- none is left
+  pub none_left : (b : Bool) → any ≡ b → length cs ≤ i → text ++ cond b [] (codes "-") ≡ all
+  none_left b e l = ap (λ t. text ++ cond t [] (codes "-")) (sym e) ∙ ap (λ xs. text ++ cells_text any (map as_cell xs)) (sym (drop_all i cs l)) ∙ told
