@@ -1,5 +1,5 @@
 -- The lines of an accepted page, record after record. Assumes nothing.
-use Rattle.std.proofs.Common.{◌≡◌, ℕ, suc, ◌+◌, List, [], ◌∷◌, ◌++◌, map, Ok, Err, Result, sym, refl, ap, ◌∙◌, add-one, IsOk, arith}
+use Rattle.std.proofs.Common.{◌≡◌, ℕ, suc, ◌+◌, List, [], ◌∷◌, ◌++◌, map, Ok, Err, Result, sym, refl, ap, ◌∙◌, add-one, IsOk, subst, get_or, Fits, w8, arith}
 use mathlib.Core.Bool.{false≢true}
 use Rattle.parts.specs.declared.Found.{Found}
 use Rattle.parts.specs.declared.Refusal.{Refusal}
@@ -7,11 +7,13 @@ use Rattle.dom.specs.Format.{Body, Entry}
 use Rattle.dom.specs.Format.Leaf.{text, comment, doctype, instruction}
 use Rattle.dom.specs.Format.Body.{document, element, leaf, attribute}
 use Rattle.dom.specs.Format.Entry.{entry}
-use Rattle.dom.specs.Reading.{entry_front}
+use Rattle.dom.specs.Reading.{entry_front, entries}
 use Rattle.dom.specs.Shown.{Shown, Seen, body_at, shown, seen_at}
 use Rattle.dom.specs.Dom.{span, locate}
 use Rattle.dom.specs.Asking.{spot}
-use Rattle.dom.specs.Fronts.{Front, read_at, standing}
+use Rattle.dom.specs.Fronts.{Front, read_at, standing, fronts_at}
+use Rattle.dom.proofs.Records.{entries_hold}
+use Rattle.dom.proofs.Fronts.{records_are_read}
 use Rattle.dom.proofs.Stepping.{never}
 use Rattle.bench.specs.Lines.{described, line, lines}
 
@@ -31,6 +33,14 @@ same_line n m d e s t p q r = rw (p, q, r)
 -- the records from a front on are the entries from that number and place on
 abbrev pub Stand : List Front → (number at : ℕ) → List Entry → Type 0
 Stand fs n at es = map read_at fs ≡ map standing (locate n at es)
+
+-- what is written, and the lines of the records that are left, are what is wanted
+pub record Told (page : List ℕ) (fs : List Front) (out wanted : List ℕ) : Type 0 where
+  pub left : (es : List Entry) → entries page ≡ Ok es → (n : ℕ) × (at : ℕ) × (rest : List Entry) × Stand fs n at rest × (out ++ lines n rest ≡ wanted ++ lines 0 es)
+
+-- at the start
+pub begun : (page : List ℕ) (fs : List Front) (out : List ℕ) → fs ≡ fronts_at page (spot 0 0) → ((i : ℕ) → Fits w8 (get_or page i 0)) → Told page fs out out
+begun page fs out e bytes = record { left = λ es h. (0, 0, es, subst (λ x. Stand x 0 0 es) (sym e) (records_are_read page es (entries_hold page es (λ i. omega (arith, bytes i)) h)), refl) }
 
 -- the first of them
 pub record First (f : Front) (fs : List Front) (n at : ℕ) (es : List Entry) : Type 0 where

@@ -9,7 +9,7 @@ ghost use Rattle.bench.specs.Values.{value_text, as_cell};
 
 use crate::hex::{Hex, HexOrDash};
 use std::fmt;
-use style::cell::WithSpec;
+use style::cell::{Declaration, WithSpec};
 use style::style::ComputedStyle;
 use style::values::{Colour, Display, Place, Specificity, Weight, WhiteSpace};
 
@@ -72,8 +72,7 @@ fn text_at(sheet: &[u8], place: Place) -> &[u8]
 #[derive(Clone, Copy)]
 struct Cell<'a> {
     name: &'a str,
-    value: Option<Value<'a>>,
-    weight: Weight,
+    won: Option<Declaration<Value<'a>>>,
 }
 
 impl<'a> Cell<'a> {
@@ -87,15 +86,14 @@ impl<'a> Cell<'a> {
         ensures { (text : T → List ℕ) → ((v : T) (w : Value) → F.post value v w → value_text w ≡ text v) → as_cell result ≡ cell name.now (option_map text (value_of from.now)) (weight_of from.now) }
     {
         let weight = from.weight();
-        let value = match from.val() {
-            Some(won) => Some(value(*won)),
+        let won = match from.val() {
+            Some(won) => {
+                let value = value(*won);
+                Some(Declaration { weight, value })
+            }
             None => None,
         };
-        Cell {
-            name,
-            value,
-            weight,
-        }
+        Cell { name, won }
     }
 }
 
@@ -130,11 +128,11 @@ impl fmt::Display for Cells<'_> {
     fn fmt<W: fmt::Write>(&self, f: &mut fmt::Formatter<W>) -> fmt::Result {
         let mut any = false;
         for cell in &self.all() {
-            let Some(value) = cell.value else {
+            let Some(Declaration { weight, value }) = cell.won else {
                 continue;
             };
             let comma = if any { "," } else { "" };
-            write!(f, "{comma}{}={value}{}", cell.name, Weighed(cell.weight))?;
+            write!(f, "{comma}{}={value}{}", cell.name, Weighed(weight))?;
             any = true;
         }
         if any { Ok(()) } else { f.write_str("-") }

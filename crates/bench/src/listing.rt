@@ -10,6 +10,7 @@ use page::fronts::records;
 use std::alloc::{AllocError, Global};
 
 /// Adds the lines of the records of an accepted page.
+#[tactic(auto, using(crate::proofs::Records::begun))]
 fn write_records(out: &mut String, page: &[u8]) -> Result<(), AllocError>
     requires { IsOk (entries page.now) }
     ensures { OnOk result ((es : List Entry) → entries page.now ≡ Ok es → string_bytes out.new ≡ string_bytes out.old ++ lines 0 es) }

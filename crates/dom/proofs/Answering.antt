@@ -1,6 +1,7 @@
 -- What is asked of a page is answered from its tree. Assumes nothing.
 use Rattle.std.proofs.Common.{◌≡◌, ℕ, zero, suc, ◌+◌, ◌-◌, ◌^◌, ◌<◌, ◌≤◌, Bool, true, false, cond, ◌&&◌, ◌||◌, eqb, ltb, leb, ◌⊎◌, List, [], ◌∷◌, ◌++◌, length, drop, Some, None, Ok, Option, Result, sym, refl, ap, ◌∙◌, subst, inl, inr, append_assoc, arith, length-append}
 use lib.Seq.{drop-append_seam}
+use Rattle.std.proofs.lemmas.Option.{none-some}
 use Rattle.std.proofs.lemmas.Bool.{and_parts, leb-true, cases_Bool, eqb-true}
 use Rattle.std.proofs.lemmas.Bool.Decides.{nat_tests}
 use Rattle.parts.specs.declared.Refusal.{Refusal}
@@ -249,7 +250,7 @@ module _ (page : List ℕ) (s : Spot) where
       ap (after_by 1 page) q ∙ asked_after 1 page i at d b es c
       ∙ nodes_are (suc i) (at + span (entry d b)) (d + 1) false d es m.small k
       ∙ ap first_spot (none_deeper (suc i) (at + span (entry d b)) (d + 1) false d es k (omega arith))
-  child_of at_end e = absurd (let z : ◌≡◌ {A = ℕ} 0 1 = cc in omega arith)
+  child_of at_end e = absurd (none-some s e)
 
   sibling_of : {x : Dom} → At page x → first_spot x ≡ Some s → after_by 0 page s ≡ first_spot (following x)
   sibling_of (an_element i at d n_s n es c k) e =
@@ -268,7 +269,7 @@ module _ (page : List ℕ) (s : Spot) where
       ap (after_by 0 page) q ∙ asked_after 0 page i at d b es c
       ∙ nodes_are (suc i) (at + span (entry d b)) (d + 0) false d es m.small k
       ∙ ap (λ y. first_spot (siblings (suc i) (at + span (entry d b)) es y)) z
-  sibling_of at_end e = absurd (let z : ◌≡◌ {A = ℕ} 0 1 = cc in omega arith)
+  sibling_of at_end e = absurd (none-some s e)
 
   child_answers : (r : Option Spot) → r ≡ after_by 1 page s → Answers children page s r
   child_answers r e es h x q f = e ∙ child_of (node_at_spot page es h q) f
@@ -337,7 +338,7 @@ module _ (page : List ℕ) (s : Spot) (name : List ℕ) where
       let q : s ≡ spot i at = cc in
       let b = Body.leaf t p in
       ap (λ y. attribute_of page y name) q ∙ attributes_after page i at d b es name c ∙ ap (first_named name) (no_attributes (suc i) (at + span (entry d b)) d es k)
-  attribute_at at_end e = absurd (let z : ◌≡◌ {A = ℕ} 0 1 = cc in omega arith)
+  attribute_at at_end e = absurd (none-some s e)
 
   pub attribute_answers : (r : Option Valued) → r ≡ attribute_of page s name → AnswersAttribute page s name r
   attribute_answers r e es h x q f = e ∙ attribute_at (node_at_spot page es h q) f
@@ -354,7 +355,7 @@ module _ (page : List ℕ) (place : ℕ) where
       let p : at ≡ place = ap (λ y. y.place) q in
       subst (λ y. shown_part (seen_at y (next_place page y) (entry_at page y)) ≡ Some (leaf_at at t w)) p
       (ap (λ y. shown_part (seen_at at (next_place page at) y)) (entry_here page i at d (Body.leaf t w) es c))
-  record_here n at_end e = absurd (let z : ◌≡◌ {A = ℕ} 0 1 = cc in omega arith)
+  record_here n at_end e = absurd (none-some (spot n place) e)
 
   pub record-answers : (r : Result Seen Refusal) → r ≡ seen_at place (next_place page place) (entry_at page place) → ReadsNode page place r
   record-answers r e es h x q n f = ap shown_part e ∙ record_here n (node_at_spot page es h q) f

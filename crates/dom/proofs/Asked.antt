@@ -1,15 +1,15 @@
 -- How a question goes on from record to record. Assumes nothing.
-use Rattle.std.proofs.Common.{◌≡◌, ℕ, suc, ◌+◌, ◌<◌, Bool, true, false, cond, eqb, List, [], ◌∷◌, length, drop, Some, None, Option, sym, refl, ap, ◌∙◌, arith}
+use Rattle.std.proofs.Common.{◌≡◌, ℕ, ◌+◌, ◌<◌, Bool, true, false, cond, eqb, List, [], ◌∷◌, length, drop, Some, None, Option, refl, ap, ◌∙◌, arith}
 use Rattle.parts.specs.declared.Spot.{Spot}
-use Rattle.dom.specs.declared.steps.Frame.{Frame}
+use Rattle.dom.specs.declared.frame.Frame.{Frame}
 use Rattle.dom.specs.Reading.{whole, le2_at, le4_at, frame_of, entry_front}
 use Rattle.dom.specs.Asking.{spot, next_number, passed, node_from, past_of, if_named, attribute_from}
 use Rattle.dom.proofs.Stepping.{whole_size, frame_cut, frame_whole}
-use Rattle.dom.proofs.Going.{skipping}
+use Rattle.dom.proofs.Going.{passing}
 
-pub nodes_skip : (skip n at : ℕ) (bs : List ℕ) (depth : ℕ) → node_from skip n at bs depth ≡ node_from 0 n (at + skip) (drop skip bs) depth
+nodes_on : (n depth m at b : ℕ) (bs : List ℕ) → node_from (m + 3) n (at + 1) bs depth ≡ node_from 0 n (at + (m + 4)) (drop (m + 4) (b ∷ bs)) depth
 unfolding node_from
-nodes_skip skip n at bs depth = skipping (λ k a q. node_from k n a q depth) None (λ k a. refl) (λ k a b q. refl) skip at bs
+nodes_on n depth = passing (λ k a q. node_from k n a q depth) None (λ k a. refl) (λ k a b q. refl)
 
 -- ---- one record, whole
 
@@ -38,14 +38,9 @@ pub node_passed : (n at depth : ℕ) (bs : List ℕ) → whole bs ≡ true → p
 unfolding node_from
 node_passed n at depth [] h g = empty_cut h
 node_passed n at depth (b ∷ bs) h g =
-    let m = le4_at (b ∷ bs) 0 in
-    let p : at + 1 + (m + 3) ≡ at + (m + 4) = omega arith in
-    let q : m + 4 ≡ suc (m + 3) = omega arith in
     chosen (whole (b ∷ bs)) (passed (b ∷ bs) depth) (on n at depth b bs) (here n at depth b bs) h
     ∙ ap (λ t. cond t (on n at depth b bs) (here n at depth b bs)) g
-    ∙ nodes_skip (m + 3) (next_number n) (at + 1) bs depth
-    ∙ ap (λ x. node_from 0 (next_number n) x (drop (m + 3) bs) depth) p
-    ∙ ap (λ x. node_from 0 (next_number n) (at + (m + 4)) (drop x (b ∷ bs)) depth) (sym q)
+    ∙ nodes_on (next_number n) depth (le4_at (b ∷ bs) 0) at b bs
 
 -- ---- the record after a spot
 module _ (page : List ℕ) (s : Spot) where
@@ -59,18 +54,11 @@ module _ (page : List ℕ) (s : Spot) where
   past_framed f h = let w = frame_whole (drop s.place page) f h in rw (w.0, w.1)
 
 -- ---- attributes
-attributes_skip : (skip n at : ℕ) (bs name : List ℕ) → attribute_from skip n at bs name ≡ attribute_from 0 n (at + skip) (drop skip bs) name
+attributes_on : (n : ℕ) (name : List ℕ) (m at b : ℕ) (bs : List ℕ) → attribute_from (m + 3) n (at + 1) bs name ≡ attribute_from 0 n (at + (m + 4)) (drop (m + 4) (b ∷ bs)) name
 unfolding attribute_from
-attributes_skip skip n at bs name = skipping (λ k a q. attribute_from k n a q name) None (λ k a. refl) (λ k a b q. refl) skip at bs
+attributes_on n name = passing (λ k a q. attribute_from k n a q name) None (λ k a. refl) (λ k a b q. refl)
 
 pub attribute_step : (n at : ℕ) (bs name : List ℕ) → 0 < length bs → attribute_from 0 n at bs name ≡ if_named n at name (entry_front at bs) (attribute_from 0 (next_number n) (at + (le4_at bs 0 + 4)) (drop (le4_at bs 0 + 4) bs) name)
 unfolding attribute_from
 attribute_step n at [] name l = absurd (omega arith)
-attribute_step n at (b ∷ bs) name l =
-    let m = le4_at (b ∷ bs) 0 in
-    let p : at + 1 + (m + 3) ≡ at + (m + 4) = omega arith in
-    let q : m + 4 ≡ suc (m + 3) = omega arith in
-    ap (if_named n at name (entry_front at (b ∷ bs)))
-    (attributes_skip (m + 3) (next_number n) (at + 1) bs name
-    ∙ ap (λ x. attribute_from 0 (next_number n) x (drop (m + 3) bs) name) p
-    ∙ ap (λ x. attribute_from 0 (next_number n) (at + (m + 4)) (drop x (b ∷ bs)) name) (sym q))
+attribute_step n at (b ∷ bs) name l = ap (if_named n at name (entry_front at (b ∷ bs))) (attributes_on (next_number n) name (le4_at (b ∷ bs) 0) at b bs)

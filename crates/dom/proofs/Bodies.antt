@@ -1,6 +1,7 @@
 -- A payload is read back as the body that it encodes, and a body that was read encodes as its payload. Assumes nothing.
 use Rattle.std.proofs.Common.{◌≡◌, ℕ, suc, ◌+◌, ◌<◌, ◌≤◌, Bool, true, false, cond, ◌&&◌, leb, List, [], ◌∷◌, ◌++◌, length, get_or, take, drop, Some, None, Ok, Err, Option, Result, refl, ap, ◌∙◌, subst, add-one, arith, length-append, take-append-drop, length-take}
 use lib.Seq.{take-append_seam, drop-append_seam}
+use Rattle.std.proofs.lemmas.Option.{none-some}
 use Rattle.std.proofs.lemmas.Bool.{le-leb, leb-true, and_parts, and_from}
 use Rattle.std.proofs.lemmas.Bool.Decides.{nat_tests}
 use Rattle.text.specs.Rfc3629.{octets}
@@ -46,7 +47,7 @@ Read p b = (payload b ≡ p) × (sound b ≡ true)
 -- a test that was passed
 passed : {X : Type 0} (t : Bool) (x : Option X) (s : X) → cond t x None ≡ Some s → (t ≡ true) × (x ≡ Some s)
 passed true x s h = (refl, h)
-passed false x s h = absurd (let z : ◌≡◌ {A = ℕ} 0 1 = cc in omega arith)
+passed false x s h = absurd (none-some s h)
 
 passed_ok : (t : Bool) (x : Result Body Refusal) (e : Refusal) (b : Body) → cond t x (Err e) ≡ Ok b → (t ≡ true) × (x ≡ Ok b)
 passed_ok true x e b h = (refl, h)

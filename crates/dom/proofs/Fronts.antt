@@ -5,7 +5,7 @@ use Rattle.std.proofs.lemmas.Bool.{leb-false}
 use Rattle.parts.specs.declared.Spot.{Spot}
 use Rattle.parts.specs.declared.Refusal.{Refusal}
 use Rattle.dom.specs.declared.order.Order.{Order}
-use Rattle.dom.specs.declared.steps.Frame.{Frame}
+use Rattle.dom.specs.declared.frame.Frame.{Frame}
 use Rattle.dom.specs.Format.{Entry, kind, encodings, order}
 use Rattle.dom.specs.Format.Entry.{entry}
 use Rattle.dom.specs.Reading.{whole, le2_at, le4_at, frame_of, first_entry, entry_front, entries, entries_from, and_then, followed, counted, after, onward}
@@ -15,14 +15,14 @@ use Rattle.dom.specs.Fronts.{Front, fronts_from, fronts_at, named_in, read_at, s
 use Rattle.dom.proofs.Stepping.{front_cut, frame_cut, frame_whole}
 use Rattle.dom.proofs.Records.{whole_is, written_rest, written_some, front_back}
 use Rattle.dom.proofs.Answering.{Small, Sounds, sounds, bytes, size_is, next_is, formed}
-use Rattle.dom.proofs.Going.{skipping, from_start, first_is_whole, order_after, order_on, order_refused, counted_more}
+use Rattle.dom.proofs.Going.{passing, from_start, first_is_whole, order_after, order_on, order_refused, counted_more}
 
 abbrev pub front : (number at : ℕ) → List ℕ → Front
 front n at bs = record { spot = spot n at; bytes = bs }
 
-fronts_skip : (skip n at : ℕ) (bs : List ℕ) → fronts_from skip n at bs ≡ fronts_from 0 n (at + skip) (drop skip bs)
+fronts_on : (n m at b : ℕ) (bs : List ℕ) → fronts_from (m + 3) n (at + 1) bs ≡ fronts_from 0 n (at + (m + 4)) (drop (m + 4) (b ∷ bs))
 unfolding fronts_from
-fronts_skip skip n at bs = skipping (λ k a q. fronts_from k n a q) [] (λ k a. refl) (λ k a b q. refl) skip at bs
+fronts_on n = passing (λ k a q. fronts_from k n a q) [] (λ k a. refl) (λ k a b q. refl)
 
 -- those behind the first
 abbrev pub fronts_past : (n at : ℕ) → List ℕ → List Front
@@ -36,14 +36,7 @@ no_fronts n at (b ∷ bs) l = absurd (omega arith)
 pub fronts_step : (n at : ℕ) (bs : List ℕ) → 0 < length bs → fronts_from 0 n at bs ≡ front n at bs ∷ cond (whole bs) (fronts_past n at bs) []
 unfolding fronts_from
 fronts_step n at [] l = absurd (omega arith)
-fronts_step n at (b ∷ bs) l =
-    let m = le4_at (b ∷ bs) 0 in
-    let p : at + 1 + (m + 3) ≡ at + (m + 4) = omega arith in
-    let q : m + 4 ≡ suc (m + 3) = omega arith in
-    ap (λ x. front n at (b ∷ bs) ∷ cond (whole (b ∷ bs)) x [])
-    (fronts_skip (m + 3) (next_number n) (at + 1) bs
-    ∙ ap (λ x. fronts_from 0 (next_number n) x (drop (m + 3) bs)) p
-    ∙ ap (λ x. fronts_from 0 (next_number n) (at + (m + 4)) (drop x (b ∷ bs))) (sym q))
+fronts_step n at (b ∷ bs) l = ap (λ x. front n at (b ∷ bs) ∷ cond (whole (b ∷ bs)) x []) (fronts_on (next_number n) (le4_at (b ∷ bs) 0) at b bs)
 
 -- as the code cuts the bytes: behind a record, or at the end where it is not whole
 pub fronts_cut : (n at m s : ℕ) (bs : List ℕ) → 0 < length bs → None ≡ frame_of bs → s ≡ length bs → fronts_from 0 n at bs ≡ front n at bs ∷ fronts_from 0 m (at + s) (take (length bs - s) (drop s bs))

@@ -24,19 +24,27 @@ skipping f e none one (suc skip) at (b ∷ bs) =
     let q : at + 1 + skip ≡ at + suc skip = omega arith in
     one skip at b bs ∙ skipping f e none one skip (at + 1) bs ∙ ap (λ n. f 0 n (drop skip bs)) q
 
-entries_skip : (skip : ℕ) (before : List Entry) (at : ℕ) (bs : List ℕ) → entries_from skip before at bs ≡ entries_from 0 before (at + skip) (drop skip bs)
+-- and of a record that begins here, which is so long
+pub passing : {X : Type 0} (f : ℕ → ℕ → List ℕ → X) (e : X) → ((skip at : ℕ) → f skip at [] ≡ e) → ((skip at b : ℕ) (bs : List ℕ) → f (suc skip) at (b ∷ bs) ≡ f skip (at + 1) bs)
+    → (m at b : ℕ) (bs : List ℕ) → f (m + 3) (at + 1) bs ≡ f 0 (at + (m + 4)) (drop (m + 4) (b ∷ bs))
+passing f e none one m at b bs =
+    let p : at + 1 + (m + 3) ≡ at + (m + 4) = omega arith in
+    let q : m + 4 ≡ suc (m + 3) = omega arith in
+    skipping f e none one (m + 3) (at + 1) bs
+    ∙ ap (λ x. f 0 x (drop (m + 3) bs)) p
+    ∙ ap (λ x. f 0 (at + (m + 4)) (drop x (b ∷ bs))) (sym q)
+
+entries_on : (before : List Entry) (m at b : ℕ) (bs : List ℕ) → entries_from (m + 3) before (at + 1) bs ≡ entries_from 0 before (at + (m + 4)) (drop (m + 4) (b ∷ bs))
 unfolding entries_from
-entries_skip skip before = skipping (λ k at bs. entries_from k before at bs) (Ok []) (λ k at. refl) (λ k at b bs. refl) skip
+entries_on before = passing (λ k at bs. entries_from k before at bs) (Ok []) (λ k at. refl) (λ k at b bs. refl)
 
 pub entries_first : (before : List Entry) (at : ℕ) (bs : List ℕ) (e : Entry) → 0 < length bs → first_entry (order before) (length before) at bs ≡ Ok e → entries_from 0 before at bs ≡ followed e (entries_from 0 (e ∷ before) (at + (le4_at bs 0 + 4)) (drop (le4_at bs 0 + 4) bs))
 unfolding entries_from
 entries_first before at [] e l h = absurd (omega arith)
 entries_first before at (b ∷ bs) e l h =
     let n = le4_at (b ∷ bs) 0 in
-    let p : at + 1 + (n + 3) ≡ at + (n + 4) = omega arith in
-    let q : n + 4 ≡ suc (n + 3) = omega arith in
     ap (λ x. and_then x (λ f. entries_from (n + 3) (f ∷ before) (at + 1) bs)) h
-    ∙ (ap (followed e) (entries_skip (n + 3) (e ∷ before) (at + 1) bs ∙ ap (λ m. entries_from 0 (e ∷ before) m (drop (n + 3) bs)) p ∙ ap (λ m. entries_from 0 (e ∷ before) (at + (n + 4)) (drop m (b ∷ bs))) (sym q)))
+    ∙ ap (followed e) (entries_on (e ∷ before) n at b bs)
 
 -- ---- the order after one more record
 pub deepest_is : (before : List Entry) → deepest_of (order before) ≡ deepest before

@@ -1,5 +1,6 @@
 -- What the tests of one record come to. Assumes nothing.
 use Rattle.std.proofs.Common.{◌≡◌, ℕ, ◌+◌, ◌-◌, ◌<◌, ◌≤◌, Bool, true, false, cond, ◌&&◌, leb, List, length, take, drop, Some, None, Ok, Err, Option, Result, sym, refl, ap, ◌∙◌, arith}
+use Rattle.std.proofs.lemmas.Option.{none-some, cond_some}
 use Rattle.std.proofs.lemmas.Bool.{le-leb, lt-leb, and_parts, leb-true}
 use Rattle.text.specs.Rfc3629.{octets}
 use Rattle.parts.specs.declared.Namespace.{Namespace}
@@ -8,7 +9,7 @@ use Rattle.parts.specs.declared.Kind.TheVariants.{Document, Element, Text, Comme
 use Rattle.parts.specs.declared.Refusal.{Refusal}
 use Rattle.parts.specs.declared.Refusal.TheVariants.{Kind as WrongKind, Depth as WrongDepth, Name as WrongName, Text as WrongText, Cut, Many}
 use Rattle.dom.specs.declared.order.Order.{Order}
-use Rattle.dom.specs.declared.steps.Frame.{Frame}
+use Rattle.dom.specs.declared.frame.Frame.{Frame}
 use Rattle.dom.specs.Format.{Leaf, Body, kind, kind_fits, depth_fits}
 use Rattle.dom.specs.Format.Entry.{entry}
 use Rattle.parts.specs.Codes.{kind_of}
@@ -52,14 +53,10 @@ module _ (bs : List ℕ) where
     where
       by : (t : Bool) → None ≡ cond t (Some framed) None → t ≡ false
       by false h = refl
-      by true h = absurd (let z : ◌≡◌ {A = ℕ} 0 1 = cc in omega arith)
+      by true h = absurd (none-some framed h)
 
   pub frame_whole : (f : Frame) → Some f ≡ frame_of bs → (whole bs ≡ true) × (f ≡ framed)
-  frame_whole f = by (whole bs)
-    where
-      by : (t : Bool) → Some f ≡ cond t (Some framed) None → (t ≡ true) × (f ≡ framed)
-      by false h = absurd (let z : ◌≡◌ {A = ℕ} 0 1 = cc in omega arith)
-      by true h = (refl, cc)
+  frame_whole f h = let c = cond_some (whole bs) framed f (sym h) in (c.0, sym c.1)
 
 pub whole_size : (bs : List ℕ) → whole bs ≡ true → (le4_at bs 0 + 4 ≤ length bs) × (8 ≤ le4_at bs 0 + 4)
 whole_size bs w =

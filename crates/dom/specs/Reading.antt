@@ -11,7 +11,7 @@ use Rattle.dom.specs.Format.{Body, Entry, kind, order, deepest_of, kind_fits, de
 use Rattle.dom.specs.Format.Leaf.{text, comment, doctype, instruction}
 use Rattle.dom.specs.Format.Body.{document, element, leaf, attribute}
 use Rattle.dom.specs.Format.Entry.{entry}
-use Rattle.dom.specs.declared.steps.Frame.{Frame}
+use Rattle.dom.specs.declared.frame.Frame.{Frame}
 use Rattle.dom.specs.declared.order.Order.{Order}
 use Rattle.dom.specs.declared.order.Order.TheVariants.{After}
 

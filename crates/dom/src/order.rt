@@ -5,7 +5,7 @@ ghost use Rattle.dom.specs.Reading.{after};
 
 use parts::Kind;
 
-pub const MAX_DEPTH: usize = 255;
+const MAX_DEPTH: usize = 255;
 
 /// What the records before say of where the next may stand.
 #[derive(Clone, Copy)]

@@ -8,7 +8,7 @@ ghost use Rattle.dom.specs.Fronts.{named_in};
 
 use crate::front::Fronts;
 use crate::node::{Node, Past};
-use dom::steps::Frame;
+use dom::frame::Frame;
 use parts::{Found, Kind, Named, Record, Spot};
 
 /// The record is an attribute, or lies deeper.
@@ -52,7 +52,7 @@ impl<'a> Node<'a> {
         for front in self.records() {
             let frame = front.frame()?;
             if !is_passed(frame, depth) {
-                return Some(front.spot).filter(|_| usize::from(frame.depth) == depth);
+                return (usize::from(frame.depth) == depth).then_some(front.spot);
             }
         }
         None

@@ -19,9 +19,7 @@ impl<'a> Payload<'a> {
         if name.is_empty() {
             return Err(Refusal::Name(at));
         }
-        let Ok(namespace) = Namespace::try_from(*namespace) else {
-            return Err(Refusal::Name(at));
-        };
+        let namespace = Namespace::try_from(*namespace).map_err(|_| Refusal::Name(at))?;
         let text = from_utf8(name).ok_or(Refusal::Name(at))?;
         Ok(Record::Element {
             namespace,

@@ -1,5 +1,5 @@
 //! The check of a page.
-ghost use Rattle.std.specs.Prelude.{◌≡◌, ◌+◌, ◌^◌, ◌<◌, length};
+ghost use Rattle.std.specs.Prelude.{◌≡◌};
 ghost use Rattle.dom.specs.Reading.{entries, counted, first_entry, onward};
 ghost use Rattle.dom.specs.Laws.{Accepts};
 

@@ -7,17 +7,27 @@ ghost use Rattle.dom.specs.Fronts.{RecordsAreRead, fronts_at};
 ghost use Rattle.dom.specs.Shown.{seen, seen_at};
 ghost use Rattle.page.specs.Said.{front_said, fronts_on, fronts_said};
 
-use crate::frame::read_frame;
 use crate::front::{Front, Fronts, Payload};
-use dom::steps::Frame;
-use parts::{Found, Refusal, Spot};
+use dom::frame::Frame;
+use parts::{Found, Kind, Refusal, Spot};
 
 impl<'a> Front<'a> {
-    /// The frame, if the record is whole.
+    /// The frame, which is the length, the kind and the depth, if the record is whole.
     pub(crate) fn frame(&self) -> Option<Frame>
         ensures { result ≡ frame_of self.now.bytes.now }
     {
-        read_frame(self.bytes)
+        let (length, rest) = self.bytes.split_first_chunk::<4>()?;
+        let follows = u32::from_le_bytes(*length) as usize;
+        if follows < 4 || follows > rest.len() {
+            return None;
+        }
+        let kind = u16::from_le_bytes([rest[0], rest[1]]);
+        let depth = u16::from_le_bytes([rest[2], rest[3]]);
+        Some(Frame {
+            kind: Kind::try_from(kind).ok(),
+            depth,
+            size: follows + 4,
+        })
     }
 
     /// The payload of the record with that frame.

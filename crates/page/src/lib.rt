@@ -4,7 +4,6 @@
 pub mod ask;
 mod body;
 pub mod check;
-mod frame;
 pub mod front;
 pub mod fronts;
 pub mod node;

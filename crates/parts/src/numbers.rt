@@ -26,12 +26,12 @@ impl Refusal {
     {
         match self {
             Refusal::Long => 0,
-            Refusal::Cut(at) => at,
-            Refusal::Kind(at) => at,
-            Refusal::Depth(at) => at,
-            Refusal::Name(at) => at,
-            Refusal::Text(at) => at,
-            Refusal::Many(at) => at,
+            Refusal::Cut(at)
+            | Refusal::Kind(at)
+            | Refusal::Depth(at)
+            | Refusal::Name(at)
+            | Refusal::Text(at)
+            | Refusal::Many(at) => at,
         }
     }
 }

@@ -1,5 +1,5 @@
 //! Pages from their pieces.
-ghost use Rattle.std.specs.Prelude.{◌≡◌, [], ◌++◌, IfOk, OnOk};
+ghost use Rattle.std.specs.Prelude.{◌≡◌, ◌++◌, IfOk, OnOk};
 ghost use Rattle.std.specs.List.{flat_map};
 ghost use Rattle.parts.specs.Codes.{kind_number};
 ghost use Rattle.dom.specs.Format.{Body, kind as kind_told, payload as payload_told, encoded};

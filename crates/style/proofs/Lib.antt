@@ -1,3 +1,4 @@
 pub mod Orders
 pub mod Winning
 pub mod Elements
+pub mod Spelling

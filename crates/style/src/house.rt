@@ -41,7 +41,7 @@ impl HouseRule {
 
 impl<S> House<S> {
     /// The style after all declarations for the element's name.
-    fn declared(&self, below: ComputedStyle, element: Node<'_>) -> ComputedStyle
+    fn with_rules(&self, below: ComputedStyle, element: Node<'_>) -> ComputedStyle
         ensures { Told element.entry.page.now element.entry.spot (λ _ e. house_entered self.now.rules e below) result }
     {
         self.rules
@@ -56,6 +56,6 @@ impl<S: StyleSource> StyleSource for House<S> {
 
     fn style(&self, parent: ComputedStyle, element: Node<'_>) -> ComputedStyle {
         let answer = self.below.style(parent, element);
-        self.declared(answer, element)
+        self.with_rules(answer, element)
     }
 }

@@ -6,7 +6,7 @@ pub mod cells;
 pub mod house;
 pub mod mark;
 pub mod name;
-mod printing;
+pub mod printing;
 pub mod rule;
 pub mod source;
 pub mod style;

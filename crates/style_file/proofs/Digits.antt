@@ -1,8 +1,9 @@
 -- Hexadecimal, two digits at a time. Assumes nothing.
-use Rattle.std.proofs.Common.{◌≡◌, ℕ, zero, suc, ◌+◌, ◌*◌, ◌<◌, List, [], ◌∷◌, ◌++◌, length, get_or, drop, Some, None, Option, sym, refl, ap, ◌∙◌, append_assoc, arith}
-use Rattle.std.proofs.lemmas.List.{at_drop_more}
+use Rattle.std.proofs.Common.{◌≡◌, ℕ, zero, suc, ◌+◌, ◌-◌, ◌*◌, ◌<◌, ◌≤◌, List, [], ◌∷◌, ◌++◌, length, get_or, drop, Some, None, Option, sym, refl, ap, ◌∙◌, append_assoc, arith}
+use Rattle.std.proofs.lemmas.List.{at_drop_more, length-append}
 use Rattle.std.specs.Option.{option_map}
 use Rattle.std.specs.Simd.{first_chunks}
+use Rattle.style_file.specs.Files.{appended}
 use Rattle.style_file.specs.Words.{then, byte_of, hex_bytes}
 
 abbrev pub pairs_read : List (List ℕ) → Option (List ℕ)
@@ -40,3 +41,12 @@ byte_read ps i done b l e =
     prepended done b (pairs_read more)
     ∙ ap (λ o. option_map (λ xs. done ++ xs) (then o (λ x. option_map (λ xs. x ∷ xs) (pairs_read more)))) e
     ∙ sym (at_drop_more (read_behind done) ps i [] l)
+
+-- what stands behind the bytes is as long as they grew
+pub stands_behind : (bs new : List ℕ) (o : Option (List ℕ)) → Some new ≡ option_map (λ text. bs ++ text) o → (length bs ≤ length new) × (Some (record { start = length bs; len = length new - length bs }, new) ≡ option_map (appended bs) o)
+stands_behind bs new None e = grind arith
+stands_behind bs new (Some text) e =
+    let grown : new ≡ bs ++ text = grind arith in
+    let long : length new ≡ length bs + length text = ap length grown ∙ length-append bs text in
+    let rest : length new - length bs ≡ length text = omega (arith, long) in
+    (omega (arith, long), λ i. Some (record { start = length bs; len = rest i }, grown i))

@@ -2,5 +2,4 @@ pub mod Counted
 pub mod Digits
 pub mod Lasts
 pub mod Made
-pub mod Spelling
 pub mod Numbered

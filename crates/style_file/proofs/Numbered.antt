@@ -3,7 +3,8 @@ use Rattle.std.proofs.Common.{◌≡◌, ℕ, ◌+◌, ◌<◌, List, length, ge
 use Rattle.std.proofs.lemmas.List.{at_drop_more, at_drop_all}
 use Rattle.std.proofs.lemmas.List.FromFn.{length-enumerate_from, get_or-enumerate_from}
 use Rattle.std.proofs.lemmas.Iterator.{YieldsList}
-use Rattle.std.proofs.lemmas.Iterator.Consumers.{YieldsList-at, YieldsList-from_enumerate}
+use Rattle.std.specs.Iterator.{Yields}
+use Rattle.std.proofs.lemmas.Iterator.Consumers.{YieldsList-at, YieldsList-from_enumerate, YieldsList-turn, YieldsList-end}
 use Rattle.std.proofs.lemmas.Iterator.Splits.{YieldsList-from_slice_split}
 use Rattle.std.specs.Fn.{CalledAt}
 use Rattle.std.specs.Iterator.Adapters.{enumerate_source, enumerate_count, enumerate_steps}
@@ -24,6 +25,15 @@ use Rattle.style_file.specs.Reading.{lines, line_added, going_on}
 -- what the loop over the lines of a text goes over; the facts are the clauses of the calls that make the iterator
 pub numbered_lines : {F : Type 0} {g : Mut F (Bor ℕ × Unit {0}) Bool} {f : F} {s : Split ℕ F} {e i : Enumerate (Split ℕ F)} (text : List ℕ) → split_rest s ≡ text → split_done s ≡ false → split_callee s ≡ f → enumerate_source e ≡ s → enumerate_count e ≡ 0 → i ≡ e → ((x : ℕ) (b : Bool) (q : F) → CalledAt g f x b q → (q ≡ f) × (b ≡ eqb x 10)) → YieldsList {B = ℕ × List ℕ} (enumerate_steps (split_steps g)) (λ p. (p.0, p.1.now)) i (enumerate_from 0 (lines text))
 numbered_lines {g} text rest done closure source count same finds = YieldsList-at same (YieldsList-from_enumerate (YieldsList-at source (YieldsList-from_slice_split g (λ b. eqb b 10) text rest done closure finds)) count)
+
+-- what it gives after n of them: the next line with its number, or that there is none
+abbrev pub NextLine : List (List ℕ) → ℕ → Option (ℕ × Bor (List ℕ)) → Type 0
+NextLine ls n r =
+    ((i : ℕ) (l : Bor (List ℕ)) → r ≡ Some (i, l) → (n < length (enumerate_from 0 ls)) × ◌≡◌ {A = ℕ × List ℕ} (i, l.now) (get_or (enumerate_from 0 ls) n (i, l.now)))
+    × (r ≡ None → n ≡ length (enumerate_from 0 ls))
+
+pub next_line : {S : Type 0} {steps : S → Option (ℕ × Bor (List ℕ)) → S → Type 0} {s : S} (ls : List (List ℕ)) → YieldsList {B = ℕ × List ℕ} steps (λ p. (p.0, p.1.now)) s (enumerate_from 0 ls) → (xs : List (ℕ × Bor (List ℕ))) (t u : S) (r : Option (ℕ × Bor (List ℕ))) → Yields steps s xs t → steps t r u → NextLine ls (length xs) r
+next_line ls e xs t u r so_far step = (λ i l is. YieldsList-turn e xs t so_far r u (i, l) is step, λ is. (YieldsList-end e xs t so_far r u is step).1)
 
 module _ (ls : List (List ℕ)) (n i : ℕ) (l : List ℕ) (turn : (n < length (enumerate_from 0 ls)) × ◌≡◌ {A = ℕ × List ℕ} (i, l) (get_or (enumerate_from 0 ls) n (i, l))) where
   within : n < length ls

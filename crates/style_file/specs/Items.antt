@@ -6,7 +6,8 @@ use Rattle.style.specs.declared.values.StyleOrigin.{StyleOrigin}
 use Rattle.style.specs.declared.values.Specificity.{Specificity}
 use Rattle.style.specs.declared.values.Weight.{Weight}
 use Rattle.style.specs.declared.rule.Tag.{Tag}
-use Rattle.style_file.specs.Words.{then, Setting, tag_of, origin_of, bit_of, record_of, count_of, setting_of}
+use Rattle.style.specs.Printing.{origin_of}
+use Rattle.style_file.specs.Words.{then, Setting, tag_of, bit_of, record_of, count_of, setting_of}
 
 pub data Item : Type 0 where
   nothing : Item

@@ -5,36 +5,23 @@ use Rattle.std.specs.Str.{bytes_eq}
 use Rattle.text.specs.HtmlIntegers.{integer, in_i64}
 use Rattle.text.specs.Superscripts.{all_digits}
 use Rattle.style.specs.declared.values.Colour.{Colour}
-use Rattle.style.specs.declared.values.Display.{Display}
-use Rattle.style.specs.declared.values.Display.TheVariants.{None as Hidden, Shown}
-use Rattle.style.specs.declared.values.StyleOrigin.{StyleOrigin}
-use Rattle.style.specs.declared.values.StyleOrigin.TheVariants.{None as NoOrigin, Agent, User, Author}
 use Rattle.style.specs.declared.values.WhiteSpace.{WhiteSpace}
 use Rattle.style.specs.declared.values.WhiteSpace.TheVariants.{Normal, Pre, PreWrap}
 use Rattle.style.specs.declared.rule.Tag.{Tag}
 use Rattle.style.specs.declared.rule.Tag.TheVariants.{Name, Class, Id}
 use Rattle.style.specs.declared.style.Property.{Property}
+use Rattle.style.specs.Printing.{says, display_of}
 
 -- where the first is there, what follows from it
 abbrev pub then : {A B : Type 0} → Option A → (A → Option B) → Option B
 then None f = None
 then (Some x) f = f x
 
--- the word is this one: it says x, or else what the others say
-abbrev pub says : {A : Type 0} → List ℕ → List ℕ → A → Option A → Option A
-says w v x other = cond (bytes_eq w v) (Some x) other
-
 abbrev pub tag_of : List ℕ → Option Tag
 tag_of w = says w (codes "name") Name (says w (codes "class") Class (says w (codes "id") Id None))
 
-abbrev pub origin_of : List ℕ → Option StyleOrigin
-origin_of w = says w (codes "none") NoOrigin (says w (codes "agent") Agent (says w (codes "user") User (says w (codes "author") Author None)))
-
 abbrev pub bit_of : List ℕ → Option Bool
 bit_of w = says w (codes "0") false (says w (codes "1") true None)
-
-abbrev pub display_of : List ℕ → Option Display
-display_of w = says w (codes "none") Hidden (says w (codes "shown") Shown None)
 
 abbrev pub white_space_of : List ℕ → Option WhiteSpace
 white_space_of w = says w (codes "normal") Normal (says w (codes "pre") Pre (says w (codes "prewrap") PreWrap None))

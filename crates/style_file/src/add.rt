@@ -6,7 +6,7 @@ ghost use Rattle.style_file.specs.Files.{appended, text_added, property_added, a
 ghost use Rattle.style_file.specs.Items.{Item as Items};
 
 use crate::file::StyleFile;
-use crate::hex::text_of;
+use crate::hex::append_text;
 use crate::item::{Item, RuleLine, Setting};
 use crate::refusal::Refusal;
 use style::house::HouseRule;
@@ -32,11 +32,16 @@ fn append(bytes: &mut Vec<u8>, text: &[u8]) -> Result<Place, Refusal>
 }
 
 /// Appends the text that the word writes, and answers where it stands.
+#[tactic(auto, using(crate::proofs::Digits::stands_behind))]
 fn add_text(bytes: &mut Vec<u8>, word: &[u8]) -> Result<Place, Refusal>
     ensures { Gives (λ p. (p, bytes.new.items)) result (text_added bytes.old.items word.now) }
 {
-    let text = text_of(*bytes.allocator(), word)?;
-    append(bytes, text.as_slice())
+    let start = bytes.len();
+    append_text(bytes, word)?;
+    Ok(Place {
+        start,
+        len: bytes.len() - start,
+    })
 }
 
 fn add_property(bytes: &mut Vec<u8>, setting: Setting<'_>) -> Result<Property, Refusal>

@@ -1,33 +1,32 @@
 //! Texts in hexadecimal.
-ghost use Rattle.std.specs.Prelude.{vec_items};
+ghost use Rattle.std.specs.Prelude.{◌++◌};
+ghost use Rattle.std.specs.Option.{option_map};
 ghost use Rattle.style_file.specs.Refusals.{Gives};
 ghost use Rattle.style_file.specs.Words.{hex_bytes, text_of};
 
 use crate::refusal::Refusal;
 use crate::word::byte_of;
-use std::alloc::Global;
 
-/// Two digits a byte.
-fn hex_bytes(heap: Global, word: &[u8]) -> Result<Vec<u8>, Refusal>
-    ensures { Gives vec_items result (hex_bytes word.now) }
+/// Appends the bytes that the word writes, two digits a byte. On a refusal nothing is promised of the bytes.
+fn append_hex(bytes: &mut Vec<u8>, word: &[u8]) -> Result<(), Refusal>
+    ensures { Gives (λ _. bytes.new.items) result (option_map (λ text. bytes.old.items ++ text) (hex_bytes word.now)) }
 {
     let (pairs, rest) = word.as_chunks::<2>();
     if !rest.is_empty() {
         return Err(Refusal::Misplaced);
     }
-    let mut bytes = Vec::new(heap);
     for [high, low] in pairs {
         bytes.push(byte_of(*high, *low).ok_or(Refusal::Misplaced)?)?;
     }
-    Ok(bytes)
+    Ok(())
 }
 
-/// The text that the word writes; a dash stands for no bytes.
-pub(crate) fn text_of(heap: Global, word: &[u8]) -> Result<Vec<u8>, Refusal>
-    ensures { Gives vec_items result (text_of word.now) }
+/// Appends the text that the word writes; a dash stands for no bytes. On a refusal nothing is promised of the bytes.
+pub(crate) fn append_text(bytes: &mut Vec<u8>, word: &[u8]) -> Result<(), Refusal>
+    ensures { Gives (λ _. bytes.new.items) result (option_map (λ text. bytes.old.items ++ text) (text_of word.now)) }
 {
     match word {
-        b"-" => Ok(Vec::new(heap)),
-        _ => hex_bytes(heap, word),
+        b"-" => Ok(()),
+        _ => append_hex(bytes, word),
     }
 }

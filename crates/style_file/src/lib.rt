@@ -1,13 +1,13 @@
 //! Style files: styles written down a line at a time, for a person at a desk.
 #![tactic(auto)]
 
-pub mod add;
+mod add;
 pub mod base;
 pub mod file;
-pub mod hex;
-pub mod item;
-pub mod line;
+mod hex;
+mod item;
+mod line;
 pub mod read;
-pub mod refusal;
+mod refusal;
 pub mod source;
-pub mod word;
+mod word;

@@ -8,9 +8,9 @@ ghost use Rattle.style_file.specs.Items.{rule_of, house_of, mark_of, specificity
 ghost use Rattle.style_file.specs.Said.{said};
 
 use crate::item::{Item, RuleLine};
-use crate::word::{bit_of, count_of, origin_of, record_of, setting_of, tag_of};
+use crate::word::{bit_of, count_of, record_of, setting_of, tag_of};
 use std::alloc::{AllocError, Global};
-use style::values::{Specificity, Weight};
+use style::values::{Specificity, StyleOrigin, Weight};
 use text::words::words;
 
 /// `rule TAG WORD ORIGIN IMPORTANT PROPERTY VALUE`, without its first word.
@@ -23,7 +23,7 @@ fn rule<'a>(words: &[&'a [u8]]) -> Option<Item<'a>>
     Some(Item::Rule(RuleLine {
         tag: tag_of(tag)?,
         word,
-        origin: origin_of(origin)?,
+        origin: StyleOrigin::try_from(*origin).ok()?,
         important: bit_of(important)?,
         setting: setting_of(property, value)?,
     }))
@@ -73,7 +73,7 @@ fn cell<'a>(words: &[&'a [u8]]) -> Option<Item<'a>>
     };
     let weight = Weight {
         important: bit_of(important)?,
-        origin: origin_of(origin)?,
+        origin: StyleOrigin::try_from(*origin).ok()?,
         specificity: specificity(inline, id, class, typ)?,
     };
     Some(Item::Cell {

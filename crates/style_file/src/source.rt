@@ -1,5 +1,5 @@
 //! The style source that a style file is.
-ghost use Rattle.std.specs.Prelude.{◌≡◌, ◌≤◌, slice_get};
+ghost use Rattle.std.specs.Prelude.{◌≡◌, ◌+◌, ◌<◌, ◌≤◌, slice_get};
 ghost use Rattle.style_file.specs.Said.{file_said};
 ghost use Rattle.style_file.specs.Sources.{base_mean, file_mean, slots_from};
 
@@ -24,19 +24,17 @@ impl<'a> StyleSource for Base<'a> {
     }
 }
 
-/// The declaration with that number, from 0, if there is one.
-fn slot(rules: &[HouseRule], i: usize) -> Option<HouseRule>
-    ensures { result ≡ slice_get rules.now i }
-{
-    rules.get(i).copied()
-}
-
 /// Eight declarations from that one on, each in a slot of a House.
 fn slots(rules: &[HouseRule], from: usize) -> [Option<HouseRule>; 8]
     requires { from ≤ 8 }
     ensures { result ≡ slots_from rules.now from }
 {
-    from_fn(|k| slot(rules, from + k))
+    from_fn(
+        |k|
+            requires { from + k < 16 }
+            ensures { result ≡ slice_get rules.entry.now (from + k) }
+        { rules.get(from + k).copied() },
+    )
 }
 
 impl StyleFile {

@@ -1,15 +1,15 @@
 //! Single words of a style file. Each function is a table of its own: the words are this format's, the values another crate's.
-#![tactic(auto, using(crate::proofs::Spelling::spelling))]
+#![tactic(auto, using(style::proofs::Spelling::spelling))]
 
 ghost use Rattle.std.specs.Prelude.{◌≡◌};
 ghost use Rattle.std.specs.Option.{option_map};
-ghost use Rattle.style_file.specs.Words.{tag_of, origin_of, bit_of, display_of, white_space_of, colour_of, nibble_of, byte_of, record_of, count_of, property_of, setting_of};
+ghost use Rattle.style_file.specs.Words.{tag_of, bit_of, white_space_of, colour_of, nibble_of, byte_of, record_of, count_of, property_of, setting_of};
 ghost use Rattle.style_file.specs.Said.{said_setting};
 
 use crate::item::Setting;
 use style::rule::Tag;
 use style::style::Property;
-use style::values::{Colour, Display, StyleOrigin, WhiteSpace};
+use style::values::{Colour, Display, WhiteSpace};
 use text::integer::parse_integer;
 use text::superscript::is_digits;
 
@@ -24,18 +24,6 @@ pub(crate) fn tag_of(word: &[u8]) -> Option<Tag>
     }
 }
 
-pub(crate) fn origin_of(word: &[u8]) -> Option<StyleOrigin>
-    ensures { result ≡ origin_of word.now }
-{
-    match word {
-        b"none" => Some(StyleOrigin::None),
-        b"agent" => Some(StyleOrigin::Agent),
-        b"user" => Some(StyleOrigin::User),
-        b"author" => Some(StyleOrigin::Author),
-        _ => None,
-    }
-}
-
 /// `0` for no, `1` for yes.
 pub(crate) fn bit_of(word: &[u8]) -> Option<bool>
     ensures { result ≡ bit_of word.now }
@@ -43,16 +31,6 @@ pub(crate) fn bit_of(word: &[u8]) -> Option<bool>
     match word {
         b"0" => Some(false),
         b"1" => Some(true),
-        _ => None,
-    }
-}
-
-fn display_of(word: &[u8]) -> Option<Display>
-    ensures { result ≡ display_of word.now }
-{
-    match word {
-        b"none" => Some(Display::None),
-        b"shown" => Some(Display::Shown),
         _ => None,
     }
 }
@@ -71,12 +49,7 @@ fn white_space_of(word: &[u8]) -> Option<WhiteSpace>
 fn nibble_of(digit: u8) -> Option<u8>
     ensures { result ≡ nibble_of digit }
 {
-    match digit {
-        b'0'..=b'9' => Some(digit - b'0'),
-        b'a'..=b'f' => Some(digit - b'a' + 10),
-        b'A'..=b'F' => Some(digit - b'A' + 10),
-        _ => None,
-    }
+    u8::try_from(char::from(digit).to_digit(16)?).ok()
 }
 
 /// The byte that two hexadecimal digits write.
@@ -124,7 +97,7 @@ fn property_of(name: &[u8], value: &[u8]) -> Option<Property>
     match name {
         b"colour" => colour_of(value).map(Property::Colour),
         b"bg" => colour_of(value).map(Property::BgColour),
-        b"display" => display_of(value).map(Property::Display),
+        b"display" => Display::try_from(value).ok().map(Property::Display),
         b"ws" => white_space_of(value).map(Property::WhiteSpace),
         _ => None,
     }

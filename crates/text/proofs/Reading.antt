@@ -1,6 +1,6 @@
 -- The digits that begin a text, and the number that the library reads from them. Assumes nothing.
-use Rattle.std.proofs.Common.{◌≡◌, ℕ, ◌^◌, ◌<◌, true, not, List, [], ◌∷◌, length, take, Ok, Err, Result, IsUtf8, refl, ap, ◌∙◌, arith, rules}
-use Rattle.std.specs.List.{list_all, prefix_len, position_or_len}
+use Rattle.std.proofs.Common.{◌≡◌, ℕ, ◌^◌, ◌<◌, Bool, true, not, List, [], ◌∷◌, length, take, Ok, Err, Result, IsUtf8, refl, ap, ◌∙◌, arith, rules}
+use Rattle.std.specs.List.{list_all, prefix_len}
 use Rattle.std.specs.Result.{OkIff, result_ok}
 use Rattle.std.specs.Str.Parse.{ParsesUnsigned}
 use Rattle.std.proofs.lemmas.List.Elements.{All-weaker}
@@ -12,12 +12,16 @@ use Rattle.std.proofs.lemmas.Bool.{and_from, cond_both}
 use Rattle.std.proofs.Math.Bool.{not-not}
 use Rattle.std.proofs.lemmas.Bool.Decides.{nat_tests}
 use Rattle.text.proofs.Runs.{run_is}
+use Rattle.text.specs.Cuts.{IsCutBefore}
 use Rattle.text.specs.HtmlIntegers.{digit, digits, read_on, base_ten, magnitude, in_u64}
 
 -- ---- the digits that begin a text
+abbrev pub other : ℕ → Bool
+other b = not (digit b)
+
 -- they end where another byte stands
-pub digits_are : (s : List ℕ) → take (position_or_len (λ b. not (digit b)) s) s ≡ digits s
-digits_are s = ap (λ p. take (prefix_len p s) s) (λ i b. not-not (digit b) i) ∙ run_is digit digits refl (λ _ _. refl) s
+pub digits_are : (s front back : List ℕ) → IsCutBefore other s front back → front ≡ digits s
+digits_are s front back cut = cut.0 ∙ ap (λ p. take (prefix_len p s) s) (λ i b. not-not (digit b) i) ∙ run_is digit digits refl (λ _ _. refl) s
 
 all_pass : (s : List ℕ) → list_all digit (digits s) ≡ true
 all_pass [] = refl

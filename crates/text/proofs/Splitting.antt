@@ -1,10 +1,13 @@
 -- The words of a text, and its first word. Assumes nothing.
-use Rattle.std.proofs.Common.{◌≡◌, ℕ, ◌<◌, Bool, true, false, not, cond, List, [], ◌∷◌, ◌++◌, length, take, drop, Some, None, sym, refl, ap, ◌∙◌, subst, arith}
+use Rattle.std.proofs.Common.{◌≡◌, ℕ, ◌+◌, get_or, ◌<◌, Bool, true, false, not, cond, List, [], ◌∷◌, ◌++◌, length, take, drop, Some, None, sym, refl, ap, ◌∙◌, subst, arith}
 use Rattle.std.specs.Char.{is_ascii_whitespace}
 use Rattle.std.specs.List.{AllByRecursion, prefix_len, position_or_len}
 use Rattle.std.proofs.lemmas.Bool.Decides.{nat_tests}
 use Rattle.std.proofs.lemmas.Bool.{cond-true, cond-false, cond_both}
+use Rattle.std.proofs.lemmas.Str.Ascii.{trim_ascii_start_is}
+use Rattle.std.specs.Str.{IsAsciiWhitespaceBelow}
 use Rattle.text.proofs.Runs.{cond_not, run_is, past_run}
+use Rattle.text.specs.Cuts.{IsCutBefore}
 use Rattle.text.specs.Infra.{ascii_white_space, Word, Ends, Splits, led_by, cut, words, WordsAreRuns, skipped, collected, left, collects, first_word, led, FirstWordLeads}
 
 abbrev white : ℕ → Bool
@@ -115,25 +118,24 @@ words_from_none bs e = first_word_leads bs ∙ ap led (sym e)
 white_is : (b : ℕ) → white b ≡ is_ascii_whitespace b
 white_is b = grind (arith, nat_tests)
 
-pub skipped_is : (s : List ℕ) → drop (prefix_len is_ascii_whitespace s) s ≡ skipped s
+skipped_is : (s : List ℕ) → drop (prefix_len is_ascii_whitespace s) s ≡ skipped s
 skipped_is = past_run is_ascii_whitespace skipped refl (λ b bs. ap (λ t. cond t (skipped bs) (b ∷ bs)) (white_is b))
+
+pub trimmed : (s r : List ℕ) (n : ℕ) → r ≡ drop n s → length r + n ≡ length s → IsAsciiWhitespaceBelow s n → (n < length s → is_ascii_whitespace (get_or s n 0) ≡ false) → r ≡ skipped s
+trimmed s r n cut long white other = trim_ascii_start_is s r (n, cut, long, white, other) ∙ skipped_is s
 
 abbrev other : ℕ → Bool
 other b = not (white b)
 
--- where a word ends
-abbrev pub word_end : List ℕ → ℕ
-word_end s = position_or_len ascii_white_space s
-
-collected_is : (s : List ℕ) → take (word_end s) s ≡ collected s
+collected_is : (s : List ℕ) → take (position_or_len ascii_white_space s) s ≡ collected s
 collected_is = run_is other collected refl (λ b bs. sym (cond_not (white b) (b ∷ collected bs) []))
 
-left_is : (s : List ℕ) → drop (word_end s) s ≡ left s
+left_is : (s : List ℕ) → drop (position_or_len ascii_white_space s) s ≡ left s
 left_is = past_run other left refl (λ b bs. sym (cond_not (white b) (left bs) (b ∷ bs)))
 
-pub first_word_is : (bs s : List ℕ) (n : ℕ) → s ≡ skipped bs → 0 < length s → n ≡ word_end s → Some (take n s, drop n s) ≡ first_word bs
-first_word_is bs [] n e h is = absurd (omega arith)
-first_word_is bs (b ∷ s) n e h is =
-    (λ i. Some (take (is i) (b ∷ s), drop (is i) (b ∷ s)))
-    ∙ (λ i. Some (collected_is (b ∷ s) i, left_is (b ∷ s) i))
-    ∙ ap collects e
+pub cut_is : (s front back : List ℕ) → IsCutBefore ascii_white_space s front back → (front ≡ collected s) × (back ≡ left s)
+cut_is s front back cut = (cut.0 ∙ collected_is s, cut.1 ∙ left_is s)
+
+pub first_word_is : (bs s front back : List ℕ) → s ≡ skipped bs → 0 < length s → front ≡ collected s → back ≡ left s → Some (front, back) ≡ first_word bs
+first_word_is bs [] front back e h f g = absurd (omega arith)
+first_word_is bs (b ∷ s) front back e h f g = (λ i. Some (f i, g i)) ∙ ap collects e

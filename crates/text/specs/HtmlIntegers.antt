@@ -1,5 +1,5 @@
 -- HTML's rules for parsing integers.
-use Rattle.std.specs.Prelude.{ℕ, ◌+◌, ◌-◌, ◌*◌, ◌^◌, Bool, cond, if◌then◌else◌, ◌&&◌, List, [], ◌∷◌, ℤ, pos, neg_ℤ, Some, None, fold, Option, ◌==◌, int_le, int_lt, nat_le, nat_lt}
+use Rattle.std.specs.Prelude.{ℕ, ◌+◌, ◌-◌, ◌*◌, ◌^◌, Bool, cond, ◌&&◌, List, [], ◌∷◌, ℤ, pos, neg_ℤ, Some, None, fold, Option, ◌==◌, int_le, int_lt, nat_le, nat_lt}
 use Rattle.std.specs.Option.{option_map}
 use Rattle.text.specs.Infra.{skipped}
 
@@ -23,10 +23,6 @@ base_ten (d ∷ ds) = Some (read_on 0 (d ∷ ds))
 
 abbrev pub magnitude : List ℕ → Option ℕ
 magnitude bs = base_ten (digits bs)
-
--- the size with its sign
-abbrev pub signed : Bool → ℕ → ℤ
-signed negative n = if negative then neg_ℤ (pos n) else pos n
 
 -- a U+002D (-) makes it negative, and a U+002B (+) is passed over
 abbrev pub with_sign : List ℕ → Option ℤ

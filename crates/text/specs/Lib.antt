@@ -1,4 +1,5 @@
 pub mod CodePoints
+pub mod Cuts
 pub mod HtmlIntegers
 pub mod Infra
 pub mod PropList

@@ -67,8 +67,9 @@ fn write(text: &[u8], out: &mut [u8])
     requires room { length (superscript_bytes text.now) ≤ length out.old }
     ensures { out.new ≡ superscript_bytes text.now ++ drop (length (superscript_bytes text.now)) out.old }
 {
-    let bytes = text.iter().flat_map(|b| superscript_of(*b).bytes());
-    for (i, byte) in bytes.enumerate() {
-        out[i] = byte;
+    let mut bytes = text.iter().flat_map(|b| superscript_of(*b).bytes());
+    for to in out.iter_mut() {
+        let Some(byte) = bytes.next() else { break };
+        *to = byte;
     }
 }

@@ -1,23 +1,14 @@
 //! UTF-8 by RFC 3629.
-ghost use Rattle.std.specs.Prelude.{◌≡◌, true, false, if◌then◌else◌, Some, None, MatchResult};
+ghost use Rattle.std.specs.Prelude.{◌≡◌, true, false, if◌then◌else◌, Some, None};
 ghost use Rattle.std.specs.Option.{option_map};
 ghost use Rattle.text.specs.Rfc3629.{octets, GrammarIsEncoding, CharactersAreCodePoints};
 
-use std::str::Utf8Error;
-
 /// The bytes as a text, where they are UTF-8.
+#[tactic(auto, using(crate::proofs::Rfc::to_table, crate::proofs::Rfc::from_table))]
 pub fn from_utf8(bytes: &[u8]) -> Option<&str>
     ensures { option_map (λ x. x.now) result ≡ (if octets bytes.now then Some bytes.now else None) }
 {
-    decode(bytes).ok()
-}
-
-/// The library's decoder takes exactly the grammar's bytes.
-#[tactic(auto, using(crate::proofs::Rfc::to_table, crate::proofs::Rfc::from_table))]
-fn decode(bytes: &[u8]) -> Result<&str, Utf8Error>
-    ensures { MatchResult result (λ t. (t.now ≡ bytes.now) × (octets bytes.now ≡ true)) (λ _. octets bytes.now ≡ false) }
-{
-    std::str::from_utf8(bytes)
+    std::str::from_utf8(bytes).ok()
 }
 
 /// The grammar of section 4 accepts exactly the encodings of section 3.

@@ -23,6 +23,7 @@ pub fn is_white_space(c: char) -> bool
 }
 
 /// Whether every character of the text is white space.
+#[tactic(auto, using(std::proofs::lemmas::Str::chars_from_encodes))]
 pub fn is_blank(text: &str) -> bool
     ensures { result ≡ blank text.now }
 {

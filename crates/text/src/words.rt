@@ -1,24 +1,44 @@
 //! ASCII white space, and the words of a text that is split at it, by the Infra standard and HTML.
-ghost use Rattle.std.specs.Prelude.{◌≡◌};
+ghost use Rattle.std.specs.Prelude.{◌≡◌, ℕ, Bool};
 ghost use Rattle.std.specs.Iterator.{YieldsFirstRef, item_count};
 ghost use Rattle.std.specs.Option.{option_map};
-ghost use Rattle.text.specs.Infra.{ascii_white_space, words, skipped, first_word, one_of, words_left, WordsAreRuns, FirstWordLeads};
+ghost use Rattle.text.specs.Cuts.{AnswersAs, IsCutBefore};
+ghost use Rattle.text.specs.Infra.{ascii_white_space, words, skipped, collected, left, first_word, one_of, words_left, WordsAreRuns, FirstWordLeads};
 
 /// Whether the byte is ASCII white space: TAB, LF, FF, CR or SPACE.
 pub fn is_ascii_white_space(b: u8) -> bool
     ensures { result ≡ ascii_white_space b }
 {
-    matches!(b, 0x09 | 0x0A | 0x0C | 0x0D | 0x20)
+    b.is_ascii_whitespace()
 }
 
 /// The text without the ASCII white space that it begins with.
+#[tactic(auto, using(crate::proofs::Splitting::trimmed))]
 pub fn skip_white_space(text: &[u8]) -> &[u8]
     ensures { result.now ≡ skipped text.now }
 {
     text.trim_ascii_start()
 }
 
+/// The bytes before the first one that ends the run, and the rest.
+pub(crate) fn cut_run<F: Fn(u8) -> bool>(text: &[u8], ends: F) -> (&[u8], &[u8])
+    requires { F.IsAlwaysCallable ends }
+    ensures { (p : ℕ → Bool) → AnswersAs (F.post ends) p → IsCutBefore p text.now result.0.now result.1.now }
+{
+    let end = text.iter().position(|b| ends(*b)).unwrap_or(text.len());
+    text.split_at(end)
+}
+
+/// The bytes before the first ASCII white space, and the rest.
+fn cut_word(text: &[u8]) -> (&[u8], &[u8])
+    ensures word { result.0.now ≡ collected text.now }
+    ensures rest { result.1.now ≡ left text.now }
+{
+    cut_run(text, is_ascii_white_space)
+}
+
 /// The first word and what follows it, where the text has a word.
+#[tactic(auto, using(crate::proofs::Splitting::first_word_is))]
 pub fn next_word(text: &[u8]) -> Option<(&[u8], &[u8])>
     ensures { option_map (λ p. (p.0.now, p.1.now)) result ≡ first_word text.now }
 {
@@ -26,11 +46,7 @@ pub fn next_word(text: &[u8]) -> Option<(&[u8], &[u8])>
     if rest.is_empty() {
         return None;
     }
-    let end = rest
-        .iter()
-        .position(|b| is_ascii_white_space(*b))
-        .unwrap_or(rest.len());
-    Some(rest.split_at(end))
+    Some(cut_word(rest))
 }
 
 /// The words of a text that are left, in order.
@@ -61,11 +77,20 @@ impl<'a> Iterator for WordIter<'a> {
     }
 }
 
+impl<'a> WordIter<'a> {
+    /// Whether the word is one of those that are left.
+    fn has(mut self, word: &[u8]) -> bool
+        ensures { result ≡ one_of word.now (words_left self.entry) }
+    {
+        self.any(|next| next == word)
+    }
+}
+
 /// Whether the word is one of the text's words.
 pub fn has_word(text: &[u8], word: &[u8]) -> bool
     ensures { result ≡ one_of word.now (words text.now) }
 {
-    words(text).any(|next| next == word)
+    words(text).has(word)
 }
 
 /// A text splits into its words, and into no others.

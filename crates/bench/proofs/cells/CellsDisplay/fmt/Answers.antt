@@ -8,7 +8,7 @@ use Rattle.bench.proofs.cells.CellsDisplay.fmt.Goals.{then-any, else-any}
 pub loop-cell-preserved : goal.loop-cell-preserved
 loop-cell-preserved g c p =
     let i = c.loop-cell.invariant p in
-    (_, has_written_append _ _ _ _ _ _ i.1 (search rules), one_more c.loop-cell.any c.all.result c.loop-cell.cell-index i.0 _ i.2 _ c.in-Some.value c.if-any.comma.now (omega arith) c.in-Some.is (elim c.if-any.branch [ then-any w ↦ search rules | else-any w ↦ search rules ]))
+    (_, has_written_append _ _ _ _ _ _ i.1 (search rules), one_more c.loop-cell.any c.all.result c.loop-cell.cell-index i.0 _ i.2 _ c.in-Some.field-0 c.if-any.comma.now (omega arith) c.in-Some.is (elim c.if-any.branch [ then-any w ↦ search rules | else-any w ↦ search rules ]))
 
 pub returns-then-any-2-clause-writes : goal.returns-then-any-2-clause-writes
 returns-then-any-2-clause-writes g c p ok =

@@ -3,7 +3,7 @@ use Rattle.std.proofs.lemmas.Iterator.{YieldsList-from_slice}
 use Rattle.std.proofs.lemmas.Iterator.Consumers.{YieldsList-from_filter_map, fold_from_yields_List}
 use Rattle.style.specs.Styles.{with_declared}
 use Rattle.style.specs.Housing.{slot_declared}
-use Rattle.style.proofs.house.House.declared.Goals as goal
+use Rattle.style.proofs.house.House.with_rules.Goals as goal
 
 pub returns : goal.returns
 returns g c es h e kids after q at =

@@ -1,4 +1,4 @@
-//! What is kept of a record while a page is read.
+//! A record's first bytes.
 use parts::Kind;
 
 /// A record's first bytes: the kind, if it is known, the depth and the length, with no word on whether they may stand there.

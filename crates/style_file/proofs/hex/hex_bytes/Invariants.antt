@@ -1,7 +1,0 @@
-use Rattle.std.proofs.Common.{◌≡◌, drop, vec_items}
-use Rattle.style_file.specs.Words.{hex_bytes}
-use Rattle.style_file.proofs.Digits.{read_behind}
-use Rattle.style_file.proofs.hex.hex_bytes.Given as goal
-
-abbrev pub invariant-loop-high : goal.invariant-loop-high
-invariant-loop-high l = read_behind (vec_items l.bytes) (drop l.high-index l.pairs) ≡ hex_bytes l.word
