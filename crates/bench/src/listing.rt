@@ -16,7 +16,7 @@ fn write_records(out: &mut String, page: &[u8]) -> Result<(), AllocError>
     ensures { OnOk result ((es : List Entry) → entries page.now ≡ Ok es → string_bytes out.new ≡ string_bytes out.old ++ lines 0 es) }
 {
     for front in records(page) {
-        let number = front.spot.number;
+        let number = front.spot().number;
         let Ok(found) = front.read() else {
             unreachable!()
         };

@@ -357,8 +357,8 @@ module _ (page : List ℕ) (place : ℕ) where
       (ap (λ y. shown_part (seen_at at (next_place page at) y)) (entry_here page i at d (Body.leaf t w) es c))
   record_here n at_end e = absurd (none-some (spot n place) e)
 
-  pub record-answers : (r : Result Seen Refusal) → r ≡ seen_at place (next_place page place) (entry_at page place) → ReadsNode page place r
-  record-answers r e es h x q n f = ap shown_part e ∙ record_here n (node_at_spot page es h q) f
+  pub record_answers : (r : Result Seen Refusal) → r ≡ seen_at place (next_place page place) (entry_at page place) → ReadsNode page place r
+  record_answers r e es h x q n f = ap shown_part e ∙ record_here n (node_at_spot page es h q) f
 
 -- the two clauses of `attribute`
 pub answered : (page : List ℕ) (s : Spot) (name : List ℕ) (r : Option Valued) → r ≡ attribute_of page s name → record { answer : r ≡ attribute_of page s name; named : AnswersAttribute page s name r }

@@ -6,8 +6,8 @@ use parts::Spot;
 /// A record's number and place, and the bytes of the page from its first one on.
 #[derive(Clone, Copy)]
 pub struct Front<'a> {
-    pub spot: Spot,
-    pub bytes: &'a [u8],
+    pub(crate) spot: Spot,
+    pub(crate) bytes: &'a [u8],
     ghost fits: { 0 < length bytes.now → spot.place + length bytes.now + 9 < 2 ^ 64 },
 }
 

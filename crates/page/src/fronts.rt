@@ -12,20 +12,28 @@ use dom::frame::Frame;
 use parts::{Found, Kind, Refusal, Spot};
 
 impl<'a> Front<'a> {
+    /// Where the record stands.
+    pub fn spot(&self) -> Spot
+        ensures { result ≡ self.now.spot }
+    {
+        self.spot
+    }
+
     /// The frame, which is the length, the kind and the depth, if the record is whole.
     pub(crate) fn frame(&self) -> Option<Frame>
         ensures { result ≡ frame_of self.now.bytes.now }
     {
         let (length, rest) = self.bytes.split_first_chunk::<4>()?;
+        let [k0, k1, d0, d1, ..] = rest else {
+            return None;
+        };
         let follows = u32::from_le_bytes(*length) as usize;
         if follows < 4 || follows > rest.len() {
             return None;
         }
-        let kind = u16::from_le_bytes([rest[0], rest[1]]);
-        let depth = u16::from_le_bytes([rest[2], rest[3]]);
         Some(Frame {
-            kind: Kind::try_from(kind).ok(),
-            depth,
+            kind: Kind::try_from(u16::from_le_bytes([*k0, *k1])).ok(),
+            depth: u16::from_le_bytes([*d0, *d1]),
             size: follows + 4,
         })
     }

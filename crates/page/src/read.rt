@@ -22,6 +22,7 @@ impl<'a> Node<'a> {
     }
 
     /// The record; what stands before it is not looked at.
+    #[tactic(auto, using(dom::proofs::Answering::record_answers))]
     pub fn record(&self) -> Result<Found<'a>, Refusal>
         ensures answer { let at = self.now.spot.place in seen result ≡ seen_at at (next_place self.now.page.now at) (entry_at self.now.page.now at) }
         ensures node { ReadsNode self.now.page.now self.now.spot.place (seen result) }

@@ -1,4 +1,4 @@
-//! Single words of a style file. Each function is a table of its own: the words are this format's, the values another crate's.
+//! Single words of a style file. `tag_of`, `bit_of` and `white_space_of` are each a table of this format's words.
 #![tactic(auto, using(style::proofs::Spelling::spelling))]
 
 ghost use Rattle.std.specs.Prelude.{◌≡◌};

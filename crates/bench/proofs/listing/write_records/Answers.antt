@@ -1,7 +1,8 @@
 use Rattle.std.proofs.Common.{suc, ◌++◌, string_bytes, sym, ap, ◌∙◌, append_assoc, append-nil, subst}
 use Rattle.dom.specs.Reading.{entries}
 use Rattle.page.specs.Said.{front_said, fronts_said}
-use Rattle.bench.specs.Lines.{lines}
+use Rattle.dom.specs.Shown.{shown}
+use Rattle.bench.specs.Lines.{line, lines}
 use Rattle.bench.proofs.Records.{Stand, first, none_left, the_entries, no_refusal, lined}
 use Rattle.bench.proofs.listing.write_records.Goals as goal
 
@@ -27,7 +28,7 @@ loop-front-preserved c =
             _,
             head.later,
             head.others,
-            ap (λ b. b ++ lines (suc i.0) head.later) c.in_ok-write.ensures.bytes ∙ append_assoc text _ _ ∙ ap (λ b. text ++ b) (sym l) ∙ i.4,
+            ap (λ b. b ++ lines (suc i.0) head.later) (c.in_ok-write.ensures.bytes ∙ ap (λ s. text ++ line s.number c.in-Ok.found.depth (shown c.in-Ok.found.record)) c.spot-number.ensures) ∙ append_assoc text _ _ ∙ ap (λ b. text ++ b) (sym l) ∙ i.4,
           );
     }
 
