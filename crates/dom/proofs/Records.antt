@@ -274,3 +274,7 @@ Answer page r = record { answer : r ≡ counted 0 (entries page); accepts : Acce
 
 pub answered : (page : List ℕ) → Octets page → (r : Result ℕ Refusal) → r ≡ counted 0 (entries page) → Answer page r
 answered page oc r e = record { answer = e; accepts = subst (Accepts page) (sym e) (accepts page oc) }
+
+-- where the answer is a refusal, whatever the numbers of the page
+pub answered_no : (page : List ℕ) (r : Refusal) → Err r ≡ counted 0 (entries page) → Answer page (Err r)
+answered_no page r e = record { answer = e; accepts = λ es h. never (e ∙ ap (counted 0) (held_entries page es h)) }

@@ -1,10 +1,23 @@
 -- Specificities and weights are ordered. Assumes nothing.
-use Rattle.std.proofs.Common.{◌≡◌, ℕ, Bool, true, false, refl, arith}
+use Rattle.std.proofs.Common.{◌≡◌, ℕ, ◌≤◌, Bool, true, false, refl, arith}
 use Rattle.std.proofs.lemmas.Bool.Decides.{nat_tests}
 use Rattle.style.specs.declared.values.Specificity.{Specificity}
 use Rattle.style.specs.declared.values.Weight.{Weight}
 use Rattle.style.specs.Cascade.{bit, first_of, less_specific, NoMore, SpecificityIsTotal, rank, below}
 
+-- ---- the first numbers decide, or else what follows: what a comparison says that does not hold, how to show one, and
+-- what one says that holds
+pub not_first : (a b : ℕ) (r : Bool) → first_of a b r ≡ false → (b ≤ a) × (a ≡ b → r ≡ false)
+not_first a b r h = (grind (arith, nat_tests), λ e. grind (arith, nat_tests))
+
+pub is_not_first : (a b : ℕ) (r : Bool) → b ≤ a → (a ≡ b → r ≡ false) → first_of a b r ≡ false
+is_not_first a b true l h = grind (arith, nat_tests)
+is_not_first a b false l h = grind (arith, nat_tests)
+
+pub is_first : (a b : ℕ) (r : Bool) → first_of a b r ≡ true → (a ≤ b) × (a ≡ b → r ≡ true)
+is_first a b r h = (grind (arith, nat_tests), λ e. grind (arith, nat_tests))
+
+-- ---- specificities and weights
 reflexive : (s : Specificity) → NoMore s s
 reflexive s = grind (arith, nat_tests)
 
@@ -40,3 +53,6 @@ below_onward a b c = onward (bit a.important) (bit b.important) (bit c.important
 
 pub below_one_way : (a b : Weight) → below a b ≡ true → below b a ≡ false
 below_one_way a b h = grind (arith, nat_tests)
+
+pub below_itself : (a : Weight) → below a a ≡ false
+below_itself a = grind (arith, nat_tests)

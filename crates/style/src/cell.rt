@@ -26,16 +26,6 @@ impl<T: Copy> WithSpec<T> {
         WithSpec { won: None }
     }
 
-    /// Enters a declaration: it replaces one that does not outrank it.
-    pub(crate) fn enter(&mut self, declaration: Declaration<T>)
-        ensures { self.new ≡ entered self.old declaration }
-    {
-        let weight = declaration.weight;
-        if self.won.is_none_or(|won| !weight.is_below(won.weight)) {
-            self.won = Some(declaration);
-        }
-    }
-
     /// Enters a declaration by its parts, which are html2text's: it replaces one that does not outrank it.
     pub fn maybe_update(
         &mut self,
@@ -51,7 +41,21 @@ impl<T: Copy> WithSpec<T> {
             origin,
             specificity,
         };
-        self.enter(Declaration { weight, value: val });
+        if self.won.is_none_or(|won| !weight.is_below(won.weight)) {
+            self.won = Some(Declaration { weight, value: val });
+        }
+    }
+
+    /// Enters a declaration.
+    pub(crate) fn enter(&mut self, declaration: Declaration<T>)
+        ensures { self.new ≡ entered self.old declaration }
+    {
+        let Weight {
+            important,
+            origin,
+            specificity,
+        } = declaration.weight;
+        self.maybe_update(important, origin, specificity, declaration.value);
     }
 
     /// What the cascade weighs in the declaration that has won so far: the least weight if there is none.

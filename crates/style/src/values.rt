@@ -88,17 +88,17 @@ impl Weight {
         if self.important { 3 - place } else { place }
     }
 
-    /// What decides, in its order: importance, then the origin's rank, then specificity.
-    fn key(self) -> (bool, u8, Specificity)
-        ensures { result ≡ (self.important, rank self.important self.origin, self.specificity) }
-    {
-        (self.important, self.rank(), self.specificity)
-    }
-
     /// Whether the other outranks this one: by importance, then by origin, then by specificity.
     pub fn is_below(self, other: Weight) -> bool
         ensures { result ≡ below self other }
     {
-        self.key() < other.key()
+        if self.important != other.important {
+            return other.important;
+        }
+        let (mine, theirs) = (self.rank(), other.rank());
+        if mine != theirs {
+            return mine < theirs;
+        }
+        self.specificity.is_less(other.specificity)
     }
 }

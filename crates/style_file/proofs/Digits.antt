@@ -1,10 +1,11 @@
 -- Hexadecimal, two digits at a time. Assumes nothing.
-use Rattle.std.proofs.Common.{◌≡◌, ℕ, zero, suc, ◌+◌, ◌-◌, ◌*◌, ◌<◌, ◌≤◌, List, [], ◌∷◌, ◌++◌, length, get_or, drop, Some, None, Option, sym, refl, ap, ◌∙◌, append_assoc, arith}
+use Rattle.std.proofs.Common.{◌≡◌, ℕ, zero, suc, ◌+◌, ◌-◌, ◌*◌, ◌<◌, ◌≤◌, Bool, false, ◌&&◌, is_some, List, [], ◌∷◌, ◌++◌, length, get_or, drop, Some, None, Option, sym, refl, ap, ◌∙◌, append_assoc, arith}
 use Rattle.std.proofs.lemmas.List.{at_drop_more, length-append}
+use Rattle.std.specs.List.{list_all}
 use Rattle.std.specs.Option.{option_map}
 use Rattle.std.specs.Simd.{first_chunks}
 use Rattle.style_file.specs.Files.{appended}
-use Rattle.style_file.specs.Words.{then, byte_of, hex_bytes}
+use Rattle.style_file.specs.Words.{then, nibble_of, is_nibble, byte_of, hex_bytes}
 
 abbrev pub pairs_read : List (List ℕ) → Option (List ℕ)
 pairs_read [] = Some []
@@ -26,6 +27,17 @@ one_over n [] l = absurd (omega arith)
 one_over n (a ∷ []) l = refl
 one_over zero (a ∷ b ∷ w) l = absurd (omega arith)
 one_over (suc n) (a ∷ b ∷ w) l = no_more (byte_of a b) ∙ ap (λ o. then (byte_of a b) (λ x. option_map (λ xs. x ∷ xs) o)) (one_over n w (omega arith))
+
+-- a byte that is no digit
+no_byte : (o p : Option ℕ) (r : Option (List ℕ)) (t : Bool) → (is_some o && (is_some p && t)) ≡ false → (t ≡ false → None ≡ r) → None ≡ then (then o (λ h. then p (λ l. Some (h * 16 + l)))) (λ x. option_map (λ xs. x ∷ xs) r)
+no_byte None p r t e more = refl
+no_byte (Some h) None r t e more = refl
+no_byte (Some h) (Some l) r t e more = ap (option_map (λ xs. (h * 16 + l) ∷ xs)) (more e)
+
+pub not_hex : (w : List ℕ) → list_all is_nibble w ≡ false → None ≡ hex_bytes w
+not_hex [] e = grind arith
+not_hex (a ∷ []) e = refl
+not_hex (a ∷ b ∷ w) e = no_byte (nibble_of a) (nibble_of b) (hex_bytes w) (list_all is_nibble w) e (not_hex w)
 
 -- what the pairs from that one on give behind the bytes so far
 abbrev pub read_behind : List ℕ → List (List ℕ) → Option (List ℕ)

@@ -1,5 +1,5 @@
 -- The words of a style file, and what each of them says.
-use Rattle.std.specs.Prelude.{ℕ, ◌+◌, ◌-◌, ◌*◌, ◌^◌, Bool, true, false, cond, ◌&&◌, List, [], ◌∷◌, ℤ, pos, negsuc, Some, None, codes, Option, nat_le, nat_lt}
+use Rattle.std.specs.Prelude.{ℕ, ◌+◌, ◌-◌, ◌*◌, ◌^◌, Bool, true, false, cond, ◌&&◌, List, [], ◌∷◌, ℤ, pos, negsuc, Some, None, codes, Option, is_some, nat_le, nat_lt}
 use Rattle.std.specs.Option.{option_map}
 use Rattle.std.specs.Str.{bytes_eq}
 use Rattle.text.specs.HtmlIntegers.{integer, in_i64}
@@ -33,6 +33,10 @@ nibble_of d =
     cond (nat_le 48 d && nat_le d 57) (Some (d - 48))
     (cond (nat_le 97 d && nat_le d 102) (Some (d - 97 + 10))
     (cond (nat_le 65 d && nat_le d 70) (Some (d - 65 + 10)) None))
+
+-- a hexadecimal digit
+abbrev pub is_nibble : ℕ → Bool
+is_nibble d = is_some (nibble_of d)
 
 abbrev pub byte_of : ℕ → ℕ → Option ℕ
 byte_of high low = then (nibble_of high) (λ h. then (nibble_of low) (λ l. Some (h * 16 + l)))

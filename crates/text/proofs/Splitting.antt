@@ -1,5 +1,5 @@
 -- The words of a text, and its first word. Assumes nothing.
-use Rattle.std.proofs.Common.{◌≡◌, ℕ, ◌+◌, get_or, ◌<◌, Bool, true, false, not, cond, List, [], ◌∷◌, ◌++◌, length, take, drop, Some, None, sym, refl, ap, ◌∙◌, subst, arith}
+use Rattle.std.proofs.Common.{◌≡◌, ℕ, suc, ◌+◌, get_or, ◌<◌, ◌≤◌, Bool, true, false, not, cond, List, [], ◌∷◌, ◌++◌, length, take, drop, Some, None, Option, sym, refl, ap, ◌∙◌, subst, arith}
 use Rattle.std.specs.Char.{is_ascii_whitespace}
 use Rattle.std.specs.List.{AllByRecursion, prefix_len, position_or_len}
 use Rattle.std.proofs.lemmas.Bool.Decides.{nat_tests}
@@ -139,3 +139,23 @@ cut_is s front back cut = (cut.0 ∙ collected_is s, cut.1 ∙ left_is s)
 pub first_word_is : (bs s front back : List ℕ) → s ≡ skipped bs → 0 < length s → front ≡ collected s → back ≡ left s → Some (front, back) ≡ first_word bs
 first_word_is bs [] front back e h f g = absurd (omega arith)
 first_word_is bs (b ∷ s) front back e h f g = (λ i. Some (f i, g i)) ∙ ap collects e
+
+-- ---- what follows the first word is shorter
+left_le : (bs : List ℕ) → length (left bs) ≤ length bs
+left_le [] = omega arith
+left_le (b ∷ bs) = cond_both (white b) (b ∷ bs) (left bs) (λ l. length l ≤ suc (length bs)) (λ _. omega arith) (λ _. omega (arith, left_le bs))
+
+skipped_le : (bs : List ℕ) → length (skipped bs) ≤ length bs
+skipped_le [] = omega arith
+skipped_le (b ∷ bs) = cond_both (white b) (skipped bs) (b ∷ bs) (λ l. length l ≤ suc (length bs)) (λ _. omega (arith, skipped_le bs)) (λ _. omega arith)
+
+abbrev Shorter : ℕ → Option (List ℕ × List ℕ) → Type 0
+Shorter n None = Unit {0}
+Shorter n (Some p) = length p.1 < n
+
+collects_shorter : (s : List ℕ) (n : ℕ) → Begins s → length s ≤ n → Shorter n (collects s)
+collects_shorter [] n h l = tt
+collects_shorter (b ∷ bs) n h l = subst (λ x. length x < n) (sym (cond-false (white b) (b ∷ bs) (left bs) h)) (omega (arith, left_le bs))
+
+pub rest_shorter : (bs : List ℕ) (p : List ℕ × List ℕ) → Some p ≡ first_word bs → length p.1 < length bs
+rest_shorter bs p e = subst (Shorter (length bs)) (sym e) (collects_shorter (skipped bs) (length bs) (skipped_begins bs) (skipped_le bs))

@@ -3,7 +3,7 @@ ghost use Rattle.std.specs.Prelude.{◌≡◌, pos};
 ghost use Rattle.std.specs.Option.{option_map};
 ghost use Rattle.text.specs.HtmlIntegers.{magnitude, integer, in_i64, in_u64};
 
-use crate::words::{cut_run, skip_white_space};
+use crate::words::skip_white_space;
 
 /// The integer that the text gives, where it is in the range of an `i64`.
 pub fn parse_integer(text: &[u8]) -> Option<i64>
@@ -21,7 +21,25 @@ pub fn parse_integer(text: &[u8]) -> Option<i64>
 fn read_digits(text: &[u8]) -> Option<i128>
     ensures { result ≡ option_map pos (in_u64 (magnitude text.now)) }
 {
-    let (digits, _) = cut_run(text, |b| !b.is_ascii_digit());
-    let digits = std::str::from_utf8(digits).ok()?;
-    digits.parse::<u64>().ok().map(i128::from)
+    magnitude(text).map(i128::from)
+}
+
+/// The same, read no further than to the digit with which it no longer fits.
+fn magnitude(text: &[u8]) -> Option<u64>
+    ensures { result ≡ in_u64 (magnitude text.now) }
+{
+    let [first, ..] = text else {
+        return None;
+    };
+    if !first.is_ascii_digit() {
+        return None;
+    }
+    let mut value: u64 = 0;
+    for b in text {
+        if !b.is_ascii_digit() {
+            return Some(value);
+        }
+        value = value.checked_mul(10)?.checked_add(u64::from(*b - b'0'))?;
+    }
+    Some(value)
 }
